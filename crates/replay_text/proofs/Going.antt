@@ -79,7 +79,7 @@ course_length d w held (s ∷ ss) = by (outcome d w held s) (step_length d w hel
 
 -- where the loop ends, from its parts
 abbrev pub end_at : List ℕ → ℕ → Stop → Held → CourseDone
-end_at text count how held = record { text = text; accepted = count; stop = how; held = held }
+end_at text count how held = record { text = text; stopped = record { accepted = count; stop = how }; held = held }
 
 -- What remains between two steps: of all steps some are left, and the course from here continues the whole.
 pub record Remaining (d : Specification) (w : World) (first : Held) (all : List Step) (before text : List ℕ) (k : ℕ) (now : Held) (left : List Step) : Type 0 where

@@ -1,5 +1,5 @@
 -- The text of a replay, and the status that it comes to.
-use Rattle.std.specs.Prelude.{ℕ, zero, suc, List, [], ◌∷◌, ◌++◌, length, get_or, codes, decimal}
+use Rattle.std.specs.Prelude.{ℕ, ℤ, zero, suc, List, [], ◌∷◌, ◌++◌, length, get_or, codes, decimal}
 use Rattle.std.specs.Fmt.{signed_decimal}
 use Rattle.spec_core.specs.declared.world.World.{World}
 use Rattle.spec_core.specs.Specification.{Specification, no_counter, no_invariant}
@@ -33,6 +33,12 @@ step_lines k (s ∷ ss) (e ∷ es) = step_line k s e ++ step_lines (suc k) ss es
 
 -- ---- the stop
 
+-- a counter with its key and a value beyond the range of a state
+abbrev pub range_words : Specification → ℕ → List ℕ → ℤ → List ℕ
+range_words d counter key value =
+    codes "range " ++ (get_or d.counters counter no_counter).name ++ spaced key ++ 32 ∷ []
+    ++ signed_decimal value
+
 -- why a step is refused; want of memory has no words
 abbrev pub refusal_words : Specification → StepRefused → List ℕ
 refusal_words d refusal.Replica = codes "replica"
@@ -43,9 +49,7 @@ refusal_words d (refusal.Precondition line) = codes "precondition " ++ decimal l
 refusal_words d refusal.NoEvent = codes "noevent"
 refusal_words d refusal.Seen = codes "seen"
 refusal_words d (refusal.Missing e) = codes "missing " ++ decimal e
-refusal_words d (refusal.Range counter key value) =
-    codes "range " ++ (get_or d.counters counter no_counter).name ++ spaced key ++ 32 ∷ []
-    ++ signed_decimal value
+refusal_words d (refusal.Range counter key value) = range_words d counter key value
 refusal_words d refusal.Memory = []
 refusal_words d (refusal.Observation line) = codes "observation " ++ decimal line
 
@@ -54,12 +58,15 @@ abbrev pub broken_words : ℕ → List ℕ
 broken_words zero = codes "start"
 broken_words (suc k) = decimal k
 
+-- the name of an invariant
+abbrev pub invariant_name : Specification → ℕ → List ℕ
+invariant_name d place = (get_or d.invariants place no_invariant).name
+
 -- the line that says how it stops, after so many accepted steps
 abbrev pub stop_line : Specification → ℕ → Stop → List ℕ
 stop_line d n stop.Done = codes "done " ++ decimal n ++ 10 ∷ []
 stop_line d n (stop.Broken place) =
-    codes "broken " ++ broken_words n ++ 32 ∷ [] ++ (get_or d.invariants place no_invariant).name
-    ++ 10 ∷ []
+    codes "broken " ++ broken_words n ++ 32 ∷ [] ++ invariant_name d place ++ 10 ∷ []
 stop_line d n (stop.Refused why) =
     codes "refused " ++ decimal n ++ 32 ∷ [] ++ refusal_words d why ++ 10 ∷ []
 

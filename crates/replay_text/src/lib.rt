@@ -20,8 +20,8 @@ mod stop;
 mod writing;
 
 pub use law::law_safe_replays;
-pub use lines::{counter_name, invariant_name, push, push_number, push_range};
-pub use recorded::replay_bytes;
+pub use lines::{invariant_name, push, push_number, push_range};
+pub use recorded::{refused_answer, replay_bytes};
 pub use spec_core::invariant_broken_at;
 pub use stop::Stop;
 pub use touched_lines::invariant_broken_after;

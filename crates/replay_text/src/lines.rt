@@ -1,11 +1,10 @@
 // The lines of a replay's text.
 
-ghost use Rattle.std.specs.Prelude.{◌≡◌, ◌++◌, ◌∷◌, [], get_or, OnOk, codes, decimal};
-ghost use Rattle.spec_core.specs.Specification.{no_counter, no_invariant};
-ghost use Rattle.std.specs.Fmt.{signed_decimal};
+ghost use Rattle.std.specs.Prelude.{◌≡◌, ◌++◌, get_or, OnOk, decimal};
+ghost use Rattle.spec_core.specs.Specification.{no_counter};
 ghost use Rattle.spec_states.specs.StateText.{spaced};
-ghost use Rattle.replay_text.specs.Text.{step_words, step_line, refusal_words, broken_words};
-ghost use Rattle.replay_text.specs.Text.{stop_line};
+ghost use Rattle.replay_text.specs.Text.{step_words, step_line, range_words, refusal_words};
+ghost use Rattle.replay_text.specs.Text.{broken_words, invariant_name, stop_line};
 
 use crate::stop::Stop;
 use replica_replay::{Step, StepRefused};
@@ -79,25 +78,24 @@ fn push_spaced(alloc: Global, text: &mut Vec<u8>, elements: &[u32]) -> Result<()
 pub fn push_range(
     alloc: Global,
     text: &mut Vec<u8>,
-    name: &[u8],
+    spec: &Spec,
+    counter: u8,
     key: &[u32],
     value: i128,
 ) -> Result<(), AllocError>
     ensures { OnOk result
-        (text.new.items
-        ≡ text.old.items
-        ++ (codes "range " ++ name.now ++ spaced key.now ++ 32 ∷ [] ++ signed_decimal value)) }
+        (text.new.items ≡ text.old.items ++ range_words spec.now counter key.now value) }
 {
     let digits = value.to_string(alloc)?;
     push(text, b"range ")?;
-    push(text, name)?;
+    push(text, counter_name(spec, counter))?;
     push_spaced(alloc, text, key)?;
     push(text, b" ")?;
     push(text, digits.as_bytes())
 }
 
 /// The name of a counter; empty where there is none.
-pub fn counter_name(spec: &Spec, counter: u8) -> &[u8]
+fn counter_name(spec: &Spec, counter: u8) -> &[u8]
     ensures { result.now ≡ (get_or spec.now.counters counter no_counter).name }
 {
     match spec.counters.as_slice().get(counter as usize) {
@@ -108,7 +106,7 @@ pub fn counter_name(spec: &Spec, counter: u8) -> &[u8]
 
 /// The name of an invariant; empty where there is none.
 pub fn invariant_name(spec: &Spec, place: usize) -> &[u8]
-    ensures { result.now ≡ (get_or spec.now.invariants place no_invariant).name }
+    ensures { result.now ≡ invariant_name spec.now place }
 {
     match spec.invariants.as_slice().get(place) {
         Some(found) => found.name.bytes(),
@@ -140,13 +138,7 @@ fn push_refusal(
             counter,
             key,
             value,
-        } => push_range(
-            alloc,
-            text,
-            counter_name(spec, *counter),
-            key.as_slice(),
-            *value,
-        ),
+        } => push_range(alloc, text, spec, *counter, key.as_slice(), *value),
         StepRefused::Memory => Ok(()),
         StepRefused::Observation { line } => {
             push_number(alloc, text, b"observation ", *line as usize)

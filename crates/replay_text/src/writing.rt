@@ -2,14 +2,14 @@
 
 ghost use Rattle.std.specs.Prelude.{◌≡◌, ◌++◌, [], ◌∷◌, ◌+◌, ◌<◌, ◌≤◌, ◌^◌, true, length, take};
 ghost use Rattle.std.specs.Prelude.{get_or, IfOk, OnOk, codes};
-ghost use Rattle.spec_core.specs.Meaning.{broken_at};
 ghost use Rattle.spec_core.specs.Fits.{world_fits};
 ghost use Rattle.spec_states.specs.StateText.{state_text};
 ghost use Rattle.replay_text.specs.Course.{state_at, replica_of, course_from, course};
 ghost use Rattle.replica_replay.specs.Held.{none_held};
 ghost use Rattle.replay_text.specs.Text.{step_lines, stop_line, replica_text, replica_texts};
 ghost use Rattle.replay_text.specs.Text.{replay_text, replay_status, status_of};
-ghost use Rattle.replay_text.specs.Reached.{IsStepped, IsReached};
+ghost use Rattle.replay_text.specs.Reached.{HasReplica, IsNew, SameSetting, broken_of, IsStepped};
+ghost use Rattle.replay_text.specs.Reached.{IsReached};
 ghost use Rattle.replay_text.specs.Asked.{AllHeld, OthersHeld, IsFrontElsewhere, LedBy};
 
 use crate::lines::{push, push_number, push_step, push_stop};
@@ -37,11 +37,8 @@ fn broken_invariant<R: Runner + Drop>(
     replay: &Replay<R>,
     replica: u32,
 ) -> Option<usize>
-    requires spec { replay.now.spec ≡ spec.now }
-    requires replica { replica < length replay.now.held.taken }
-    ensures { result
-        ≡ broken_at spec.now replay.now.world
-        (state_at spec.now replay.now.world replay.now.held replica) }
+    requires replica { HasReplica spec.now replay.now replica }
+    ensures { result ≡ broken_of spec.now replay.now replica }
 {
     invariant_broken_at(spec, replay.world(), replay.state_of(replica))
 }
@@ -79,14 +76,11 @@ fn broken_by<R: Runner + Drop>(
     replica: u32,
     event: u32,
 ) -> Option<usize>
-    requires spec { replay.now.spec ≡ spec.now }
-    requires replica { replica < length replay.now.held.taken }
+    requires replica { HasReplica spec.now replay.now replica }
     requires event { event < length replay.now.held.events }
     requires led { LedBy spec.now replay.now.world
         replay.now.held replica event }
-    ensures { result
-        ≡ broken_at spec.now replay.now.world
-        (state_at spec.now replay.now.world replay.now.held replica) }
+    ensures { result ≡ broken_of spec.now replay.now replica }
 {
     invariant_broken_after(
         spec,
@@ -104,16 +98,13 @@ fn broken_after<R: Runner + Drop>(
     replica: u32,
     event: u32,
 ) -> Option<usize>
-    requires spec { replay.now.spec ≡ spec.now }
-    requires replica { replica < length replay.now.held.taken }
+    requires replica { HasReplica spec.now replay.now replica }
     requires event { event < length replay.now.held.events }
     requires others { OthersHeld spec.now replay.now.world
         replay.now.held replica }
     requires led { LedBy spec.now replay.now.world
         replay.now.held replica event }
-    ensures { result
-        ≡ broken_at spec.now replay.now.world
-        (state_at spec.now replay.now.world replay.now.held replica) }
+    ensures { result ≡ broken_of spec.now replay.now replica }
 {
     if is_front_elsewhere(replay, replica) {
         return None;
@@ -142,8 +133,7 @@ fn carry_out<R: Runner + Drop>(
     ensures stepped { IfOk result
         (λ s. IsStepped spec.now replay.old.world replay.old.held step.now
         s replay.new.held) }
-    ensures world { OnOk result (replay.new.world ≡ replay.old.world) }
-    ensures spec { OnOk result (replay.new.spec ≡ replay.old.spec) }
+    ensures setting { OnOk result (SameSetting replay.old replay.new) }
 {
     replay.is_held();
     match replay.step(step) {
@@ -177,14 +167,8 @@ fn write_steps<R: Runner + Drop>(
         (λ s. IsReached
         (course_from spec.now replay.old.world replay.old.held steps.now)
         steps.now text.old.items
-        (record {
-          text = text.new.items;
-          accepted = s.accepted;
-          stop = s.stop;
-          held = replay.new.held;
-        })) }
-    ensures world { OnOk result (replay.new.world ≡ replay.old.world) }
-    ensures spec { OnOk result (replay.new.spec ≡ replay.old.spec) }
+        (record { text = text.new.items; stopped = s; held = replay.new.held })) }
+    ensures setting { OnOk result (SameSetting replay.old replay.new) }
 {
     for (number, step) in steps.iter().enumerate() {
         replay.is_held();
@@ -219,8 +203,7 @@ fn push_state<R: Runner + Drop>(
     replay: &Replay<R>,
     replica: u32,
 ) -> Result<(), AllocError>
-    requires spec { replay.now.spec ≡ spec.now }
-    requires replica { replica < length replay.now.held.taken }
+    requires replica { HasReplica spec.now replay.now replica }
     ensures { OnOk result
         (text.new.items
         ≡ text.old.items
@@ -238,8 +221,7 @@ fn push_replica<R: Runner + Drop>(
     replay: &Replay<R>,
     replica: u32,
 ) -> Result<(), AllocError>
-    requires spec { replay.now.spec ≡ spec.now }
-    requires replica { replica < length replay.now.held.taken }
+    requires replica { HasReplica spec.now replay.now replica }
     ensures { OnOk result
         (text.new.items
         ≡ text.old.items
@@ -283,20 +265,12 @@ fn write_course<R: Runner + Drop>(
     steps: &[Step],
     text: &mut Vec<u8>,
 ) -> Result<Stopped, AllocError>
-    requires spec { replay.old.spec ≡ spec.now }
-    requires held { replay.old.held ≡ none_held replicas }
-    requires some { 1 ≤ replicas }
+    requires { IsNew spec.now replicas replay.old }
     ensures reached { IfOk result
         (λ s. IsReached (course spec.now replay.old.world replicas steps.now) steps.now
         text.old.items
-        (record {
-          text = text.new.items;
-          accepted = s.accepted;
-          stop = s.stop;
-          held = replay.new.held;
-        })) }
-    ensures world { OnOk result (replay.new.world ≡ replay.old.world) }
-    ensures spec { OnOk result (replay.new.spec ≡ replay.old.spec) }
+        (record { text = text.new.items; stopped = s; held = replay.new.held })) }
+    ensures setting { OnOk result (SameSetting replay.old replay.new) }
 {
     match broken_invariant(spec, replay, 0) {
         Some(place) => Ok(Stopped {
@@ -327,9 +301,7 @@ fn write_replay<R: Runner + Drop>(
     steps: &[Step],
     text: &mut Vec<u8>,
 ) -> Result<u8, AllocError>
-    requires spec { replay.old.spec ≡ spec.now }
-    requires held { replay.old.held ≡ none_held replicas }
-    requires some { 1 ≤ replicas }
+    requires { IsNew spec.now replicas replay.old }
     ensures text { OnOk result
         (text.new.items
         ≡ text.old.items ++ replay_text spec.now replay.old.world replicas steps.now) }

@@ -1,6 +1,6 @@
 -- What the code of a simulation carries out, in the words of the definitions.
 use Rattle.std.proofs.Common.{◌≡◌, ℕ, ◌+◌, ◌<◌, ◌≤◌, inl, inr, Bool, true, false, Result, List, [], ◌∷◌, ◌++◌, length, map, set, get_or, Option, None, Some, refl, sym, ap, ◌∙◌, subst, append_assoc, append-nil, add-one, arith}
-use Rattle.std.specs.Prelude.{slice_get, nat_lt, cond, ℤ, IfOk}
+use Rattle.std.specs.Prelude.{slice_get, nat_lt, cond, ℤ}
 use Rattle.std.specs.Option.{is_some}
 use Rattle.std.proofs.lemmas.Result.{IfOk-weaker}
 use Rattle.std.proofs.lemmas.List.{length-map}
@@ -27,7 +27,7 @@ use Rattle.simulate_text.specs.declared.said.Stop.{Stop}
 use Rattle.simulate_text.specs.declared.said.Stop.TheVariants as stop
 use Rattle.simulate_text.specs.declared.simulation.Simulation.{Simulation}
 use Rattle.simulate_text.specs.Course.{Simulated, Part, GrantHeard, goes_on, stops, saying, with_net, stepped, told, broken_of, unless_broken, asked_at, heard_by, granted, hears_grant, asked_once, asks, begun, begins, is_waiting, tries_again, taken, takes, calls, part_of, replica_of as caller}
-use Rattle.simulate_text.specs.Reached.{simulated_in, IsOf, IsAsked, IsGone, PartDone, IsPart, StepDone, IsStep, Does}
+use Rattle.simulate_text.specs.Reached.{simulated_in, IsOf, IsAsked, IsGone, IsPart, IsDone, StepDone, IsStep, Does}
 
 -- ---- replicas
 
@@ -74,35 +74,36 @@ hears_more d w m n first mid new it e gone =
 
 -- ---- parts
 
--- what is left of a part, and of a step
-abbrev pub part_done : {R : Type 0} → List Said → Option Stop → Simulation R → PartDone R
-part_done said stop sim = record { said = said; stop = stop; sim = sim }
-
+-- what is left of a step
 abbrev pub step_done : {R : Type 0} → List ℕ → Option Stop → Simulation R → StepDone R
 step_done text stop sim = record { text = text; stop = stop; sim = sim }
 
 -- it stops, and nothing was said
-pub stopped_part : {R : Type 0} (d : Specification) (w : World) (how : Stop) (sim : Simulation R) (before : List Said) → IsAsked d w sim
-    → IsPart d w (stops how (simulated_in sim)) before (part_done before (Some how) sim)
-stopped_part d w how sim before asked = record { said_is = append-nil before; stop_is = refl; after_is = refl; asked = asked }
+pub stopped_part : {R : Type 0} (d : Specification) (w : World) (how : Stop) (sim : Simulation R) → IsAsked d w sim
+    → IsPart d w (stops how (simulated_in sim)) sim.said.items (Some how) sim
+stopped_part d w how sim asked = record { said_is = append-nil sim.said.items; stop_is = refl; after_is = refl; asked = asked }
 
 -- a part is carried out as one that it is equal to
-pub as_part : {R : Type 0} (d : Specification) (w : World) (part other : Part) (before : List Said) (after : PartDone R) → other ≡ part
-    → IsPart d w part before after → IsPart d w other before after
-as_part d w part other before after e is = subst (λ (p : Part). IsPart d w p before after) (sym e) is
+pub as_part : {R : Type 0} (d : Specification) (w : World) (part other : Part) (before : List Said) (stop : Option Stop) (after : Simulation R) → other ≡ part
+    → IsPart d w part before stop after → IsPart d w other before stop after
+as_part d w part other before stop after e is = subst (λ (p : Part). IsPart d w p before stop after) (sym e) is
 
 -- A part is carried out where another was, from another simulation on, to which it is equal there.
-pub does_from : {E R : Type 0} (r : Result (Option Stop) E) (part other : Specification → World → Simulated → Part) (mid old : Simulation R) (before said : List Said) (new : Simulation R)
+pub does_from : {E R : Type 0} (r : Result (Option Stop) E) (part other : Specification → World → Simulated → Part) (mid old new : Simulation R) → mid.said.items ≡ old.said.items
     → ((d : Specification) (w : World) → IsAsked d w old → IsAsked d w mid × (other d w (simulated_in old) ≡ part d w (simulated_in mid)))
-    → IfOk r (λ stop. Does part mid before (part_done said stop new)) → IfOk r (λ stop. Does other old before (part_done said stop new))
-does_from r part other mid old before said new e does =
-    IfOk-weaker r (λ stop. Does part mid before (part_done said stop new)) (λ stop. Does other old before (part_done said stop new))
-    (λ stop does d w asked. as_part d w (part d w (simulated_in mid)) (other d w (simulated_in old)) before (part_done said stop new) (e d w asked).1 (does d w (e d w asked).0)) does
+    → Does part mid new r → Does other old new r
+does_from r part other mid old new same e does =
+    IfOk-weaker r (λ stop. IsDone part mid new stop) (λ stop. IsDone other old new stop)
+    (λ stop does d w asked.
+    let mid_part = part d w (simulated_in mid) in
+    as_part d w mid_part (other d w (simulated_in old)) old.said.items stop new (e d w asked).1
+    (subst (λ (l : List Said). IsPart d w mid_part l stop new) same (does d w (e d w asked).0)))
+    does
 
 -- something was said before a part was carried out
-pub said_first : {R : Type 0} (d : Specification) (w : World) (what : Said) (part : Part) (before mid said : List Said) (stop : Option Stop) (after : Simulation R) → mid ≡ before ++ what ∷ []
-    → IsPart d w part mid (part_done said stop after) → IsPart d w (saying what part) before (part_done said stop after)
-said_first d w what part before mid said stop after e is = record {
+pub said_first : {R : Type 0} (d : Specification) (w : World) (what : Said) (part : Part) (before mid : List Said) (stop : Option Stop) (after : Simulation R) → mid ≡ before ++ what ∷ []
+    → IsPart d w part mid stop after → IsPart d w (saying what part) before stop after
+said_first d w what part before mid stop after e is = record {
   said_is = sym (append_assoc before (what ∷ []) part.said) ∙ ap (λ (l : List Said). l ++ part.said) (sym e) ∙ is.said_is;
   stop_is = is.stop_is;
   after_is = is.after_is;
@@ -187,10 +188,10 @@ replica_below net s r n a b lt =
     let count = replica_count net in lt-ltb (caller s) (length (network_held net).replicas) (omega (arith, a, b, lt, count))
 
 -- a step was carried out, and its lines were added to a text
-pub step_part : {R : Type 0} (d : Specification) (w : World) (part : Part) (k r : ℕ) (s : Step) (before text : List ℕ) (start said told : List Said) (stop : Option Stop) (after : Simulation R)
-    → start ≡ [] → IsPart d w part start (part_done said stop after) → r ≡ caller s → told ≡ said → text ≡ before ++ said_lines d k r told
+pub step_part : {R : Type 0} (d : Specification) (w : World) (part : Part) (k r : ℕ) (s : Step) (before text : List ℕ) (start told : List Said) (stop : Option Stop) (after : Simulation R)
+    → start ≡ [] → IsPart d w part start stop after → r ≡ caller s → told ≡ after.said.items → text ≡ before ++ said_lines d k r told
     → IsStep d w part (said_lines d k (caller s)) before (step_done text stop after)
-step_part d w part k r s before text start said told stop after none is a b e = record {
+step_part d w part k r s before text start told stop after none is a b e = record {
   text_is = e ∙ ap (λ n. before ++ said_lines d k n told) a
       ∙ ap (λ (l : List Said). before ++ said_lines d k (caller s) l) (b ∙ sym is.said_is ∙ ap (λ (l : List Said). l ++ part.said) none);
   stop_is = is.stop_is;

@@ -210,6 +210,10 @@ tries_again d w r sim =
     (hears_grant d w r (get_or sim.grants r 0) false sim)
     (goes_on [] sim)
 
+-- A replica took an event: the invariants are asked, and then a call that waits there hears its grant again.
+abbrev pub took : Specification → World → ℕ → ℕ → Simulated → Part
+took d w r e sim = saying (said.Take e) (asked_at d w r sim (tries_again d w r sim))
+
 -- What a replica answers to the Done of this event.
 abbrev pub taken : Specification → World → ℕ → ℕ → Result NetDid SimulateRefused → Simulated → Part
 taken d w r e (Err why) sim = stops (stop.Refused why) sim
@@ -217,8 +221,7 @@ taken d w r e (Ok (did.Ran n)) sim = goes_on [] sim
 taken d w r e (Ok (did.Void cause m)) sim = goes_on [] sim
 taken d w r e (Ok (did.Asked q)) sim = goes_on [] sim
 taken d w r e (Ok (did.Granted m)) sim = goes_on [] sim
-taken d w r e (Ok (did.Took n)) sim =
-    saying (said.Take e) (asked_at d w r sim (tries_again d w r sim))
+taken d w r e (Ok (did.Took n)) sim = took d w r e sim
 taken d w r e (Ok (did.Awaits id)) sim =
     goes_on (said.Early (number_of sim.net.happened id) ∷ []) sim
 taken d w r e (Ok did.Noted) sim = goes_on [] sim

@@ -1,8 +1,7 @@
 -- The lines of a simulation's steps, and the line that says how it stops.
-use Rattle.std.specs.Prelude.{ℕ, ℤ, List, [], ◌∷◌, ◌++◌, get_or, codes, decimal}
-use Rattle.std.specs.Fmt.{signed_decimal}
-use Rattle.spec_core.specs.Specification.{Specification, no_counter, no_invariant}
-use Rattle.spec_states.specs.StateText.{spaced}
+use Rattle.std.specs.Prelude.{ℕ, List, [], ◌∷◌, ◌++◌, codes, decimal}
+use Rattle.spec_core.specs.Specification.{Specification}
+use Rattle.replay_text.specs.Text.{range_words, invariant_name}
 use Rattle.token_protocol.specs.declared.node.WhyVoid.{WhyVoid}
 use Rattle.token_protocol.specs.declared.node.WhyVoid.TheVariants as why
 use Rattle.simulate_text.specs.declared.said.Said.{Said}
@@ -11,12 +10,6 @@ use Rattle.simulate_text.specs.declared.said.SimulateRefused.{SimulateRefused}
 use Rattle.simulate_text.specs.declared.said.SimulateRefused.TheVariants as refusal
 use Rattle.simulate_text.specs.declared.said.Stop.{Stop}
 use Rattle.simulate_text.specs.declared.said.Stop.TheVariants as stop
-
--- a counter with its key and a value beyond the range of a state
-abbrev pub range_words : Specification → ℕ → List ℕ → ℤ → List ℕ
-range_words d counter key value =
-    codes "range " ++ (get_or d.counters counter no_counter).name ++ spaced key ++ 32 ∷ []
-    ++ signed_decimal value
 
 -- why a call is void
 abbrev pub void_words : Specification → WhyVoid → List ℕ
@@ -52,10 +45,6 @@ refusal_words d refusal.Arguments = codes "arguments"
 refusal_words d refusal.Waiting = codes "waiting"
 refusal_words d refusal.NoEvent = codes "noevent"
 refusal_words d (refusal.Range counter key value) = range_words d counter key value
-
--- the name of an invariant
-abbrev pub invariant_name : Specification → ℕ → List ℕ
-invariant_name d place = (get_or d.invariants place no_invariant).name
 
 -- the line that says how it stops, at the step of this number
 abbrev pub stop_line : Specification → ℕ → Stop → List ℕ

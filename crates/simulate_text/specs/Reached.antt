@@ -1,5 +1,5 @@
 -- What the code of a simulation leaves. This serves the code and its proofs.
-use Rattle.std.specs.Prelude.{◌≡◌, ℕ, List, ◌++◌, Option, Result, replicate}
+use Rattle.std.specs.Prelude.{◌≡◌, ℕ, List, ◌++◌, Option, Result, IfOk, replicate}
 use Rattle.spec_core.specs.declared.world.World.{World}
 use Rattle.spec_core.specs.Specification.{Specification}
 use Rattle.token_protocol.specs.declared.network.NetDid.{NetDid}
@@ -41,26 +41,25 @@ pub record IsGone (d : Specification) (w : World) (o : Outcome) (before : Networ
   pub net_is : network_after before o ≡ network_held after
   pub of : IsOf d w after
 
--- What the code has after a part of a step: all that was said, whether it stops there, and the simulation.
-pub record PartDone (R : Type 0) : Type 0 where
-  pub said : List Said
-  pub stop : Option Stop
-  pub sim : Simulation R
-
--- A part of a step was carried out: what it says was added to what was said, and this is how it stops and what is left.
+-- A part of a step was carried out: what it says was added to what was said before, this is how it stops, and this is what is left.
 pub record IsPart {R : Type 0} (d : Specification) (w : World) (part : Part) (before : List Said)
-    (after : PartDone R) : Type 0 where
-  pub said_is : before ++ part.said ≡ after.said
-  pub stop_is : part.stop ≡ after.stop
-  pub after_is : part.after ≡ simulated_in after.sim
-  pub asked : IsAsked d w after.sim
+    (stop : Option Stop) (after : Simulation R) : Type 0 where
+  pub said_is : before ++ part.said ≡ after.said.items
+  pub stop_is : part.stop ≡ stop
+  pub after_is : part.after ≡ simulated_in after
+  pub asked : IsAsked d w after
 
 -- This part was carried out, whatever the specification and the world of the network are.
-abbrev pub Does : {R : Type 0} → (Specification → World → Simulated → Part) → Simulation R
-    → List Said → PartDone R → Type 0
-Does part old before after =
+abbrev pub IsDone : {R : Type 0} → (Specification → World → Simulated → Part) → Simulation R
+    → Simulation R → Option Stop → Type 0
+IsDone part old new stop =
     (d : Specification) (w : World) → IsAsked d w old
-    → IsPart d w (part d w (simulated_in old)) before after
+    → IsPart d w (part d w (simulated_in old)) old.said.items stop new
+
+-- This part was carried out, or memory was wanting.
+abbrev pub Does : {R E : Type 0} → (Specification → World → Simulated → Part) → Simulation R
+    → Simulation R → Result (Option Stop) E → Type 0
+Does part old new result = IfOk result (λ stop. IsDone part old new stop)
 
 -- What the code has after a step: the text so far, whether it stops there, and the simulation.
 pub record StepDone (R : Type 0) : Type 0 where

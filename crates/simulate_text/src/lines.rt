@@ -1,11 +1,11 @@
 // The lines of a simulation's text.
 
-ghost use Rattle.std.specs.Prelude.{◌≡◌, ◌++◌, ◌∷◌, [], get_or, OnOk, codes, decimal};
+ghost use Rattle.std.specs.Prelude.{◌≡◌, ◌++◌, OnOk};
 ghost use Rattle.simulate_text.specs.Lines.{void_words, said_words, said_line, said_lines};
 ghost use Rattle.simulate_text.specs.Lines.{refusal_words, stop_line};
 
 use crate::said::{Said, SimulateRefused, Stop};
-use replay_text::{counter_name, invariant_name, push, push_number, push_range};
+use replay_text::{invariant_name, push, push_number, push_range};
 use spec_core::Spec;
 use std::alloc::{AllocError, Global};
 use token_protocol::WhyVoid;
@@ -27,13 +27,7 @@ fn push_void(
             counter,
             key,
             value,
-        } => push_range(
-            alloc,
-            text,
-            counter_name(spec, *counter),
-            key.as_slice(),
-            *value,
-        ),
+        } => push_range(alloc, text, spec, *counter, key.as_slice(), *value),
     }
 }
 
@@ -116,13 +110,7 @@ fn push_refusal(
             counter,
             key,
             value,
-        } => push_range(
-            alloc,
-            text,
-            counter_name(spec, *counter),
-            key.as_slice(),
-            *value,
-        ),
+        } => push_range(alloc, text, spec, *counter, key.as_slice(), *value),
     }
 }
 

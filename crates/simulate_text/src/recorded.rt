@@ -7,8 +7,9 @@ ghost use Rattle.simulate_text.specs.Text.{simulate_text, simulate_status};
 ghost use Rattle.simulate_text.specs.Recorded.{simulated_status, simulated_text};
 
 use crate::writing::simulate;
-use byte_ports::{Answer, REFUSED};
-use schedule_json::{Schedule, read_schedule, refusal_text};
+use byte_ports::Answer;
+use replay_text::refused_answer;
+use schedule_json::{Schedule, read_schedule};
 use spec_core::Spec;
 use std::alloc::{AllocError, Global};
 
@@ -39,12 +40,6 @@ pub fn simulate_bytes(alloc: Global, spec: &Spec, bytes: &[u8]) -> Result<Answer
 {
     match read_schedule(alloc, spec, bytes) {
         Ok(schedule) => simulate_read(alloc, spec, &schedule),
-        Err(refused) => {
-            let text = refusal_text(alloc, &refused)?;
-            Ok(Answer {
-                status: REFUSED,
-                text,
-            })
-        }
+        Err(refused) => refused_answer(alloc, &refused),
     }
 }

@@ -7,9 +7,9 @@ ghost use Rattle.spec_core.specs.Specification.{Specification};
 ghost use Rattle.spec_core.specs.Meaning.{broken_at};
 ghost use Rattle.token_protocol.specs.Network.{Replica, outcome, events_of};
 ghost use Rattle.token_core.specs.HeldNet.{network_held};
-ghost use Rattle.simulate_text.specs.Course.{refusal_of, heard_by_all, broken_of, saying, asked_at};
-ghost use Rattle.simulate_text.specs.Course.{ran, void, granted, hears_grant, asks, begun, begins};
-ghost use Rattle.simulate_text.specs.Course.{is_waiting, tries_again, taken, takes};
+ghost use Rattle.simulate_text.specs.Course.{refusal_of, heard_by_all, broken_of, ran, void};
+ghost use Rattle.simulate_text.specs.Course.{granted, hears_grant, asks, begun, begins};
+ghost use Rattle.simulate_text.specs.Course.{is_waiting, tries_again, took, taken, takes};
 ghost use Rattle.simulate_text.specs.Unbroken.{IsUnbrokenAfter, AreUnbroken, StaysUnbroken};
 ghost use Rattle.simulate_text.specs.Unbroken.{IsLastCall};
 ghost use Rattle.simulate_text.specs.Reached.{IsOf, IsFirst, IsGone, Does};
@@ -23,13 +23,14 @@ use token_protocol::{NetDid, NetRefused, NetStep, WhyVoid};
 
 /// A simulation: its network, and the numbers of the messages that it delivers again: for each event that of its Done, and for each
 /// replica that of the first grant of the last call that waited there. Beside them stands for each replica after how many events its
-/// state is known to break no invariant.
+/// state is known to break no invariant, and what the step that is carried out says so far.
 #[derive(Drop)]
 pub struct Simulation<R: Runner + Drop> {
     pub net: Net<R>,
     pub dones: Vec<u32>,
     pub grants: Vec<u32>,
     pub unbroken: Vec<u32>,
+    pub said: Vec<Said>,
 }
 
 /// A number as one of 32 bits, where it has no more.
@@ -221,23 +222,16 @@ impl<R: Runner + Drop> Simulation<R> {
             dones: Vec::new(alloc),
             grants,
             unbroken,
+            said: Vec::new(alloc),
         })
     }
 
     // A call of a replica was run: it is this event, whose Done has this number.
-    fn ran(
-        &mut self,
-        replica: u32,
-        event: u32,
-        done: u32,
-        said: &mut Vec<Said>,
-    ) -> Result<Option<Stop>, AllocError>
-        ensures { IfOk result
-            (λ stop. Does (λ d w. ran d w replica event done) self.old said.old.items
-            (record { said = said.new.items; stop = stop; sim = self.new })) }
+    fn ran(&mut self, replica: u32, event: u32, done: u32) -> Result<Option<Stop>, AllocError>
+        ensures { Does (λ d w. ran d w replica event done) self.old self.new result }
     {
         self.dones.push(done)?;
-        said.push(Said::Call(event))?;
+        self.said.push(Said::Call(event))?;
         match ask_invariants(&self.net, &mut self.unbroken, replica) {
             Some(place) => Ok(Some(Stop::Broken(place))),
             None => Ok(None),
@@ -245,17 +239,10 @@ impl<R: Runner + Drop> Simulation<R> {
     }
 
     // A call is void, and the message that says so has this number.
-    fn void(
-        &mut self,
-        why: WhyVoid,
-        message: u32,
-        said: &mut Vec<Said>,
-    ) -> Result<Option<Stop>, AllocError>
-        ensures { IfOk result
-            (λ stop. Does (λ d w. void d w why message) self.old said.old.items
-            (record { said = said.new.items; stop = stop; sim = self.new })) }
+    fn void(&mut self, why: WhyVoid, message: u32) -> Result<Option<Stop>, AllocError>
+        ensures { Does (λ d w. void d w why message) self.old self.new result }
     {
-        said.push(Said::Void(why))?;
+        self.said.push(Said::Void(why))?;
         tell_all(&mut self.net, message)?;
         Ok(None)
     }
@@ -267,22 +254,20 @@ impl<R: Runner + Drop> Simulation<R> {
         sent: u32,
         tells: bool,
         answer: Result<NetDid, SimulateRefused>,
-        said: &mut Vec<Said>,
     ) -> Result<Option<Stop>, AllocError>
-        ensures { IfOk result
-            (λ stop. Does
+        ensures { Does
             (λ d w. granted d w (record { replica = replica; sent = sent; tells = tells }) answer)
-            self.old said.old.items
-            (record { said = said.new.items; stop = stop; sim = self.new })) }
+            self.old self.new result }
     {
         match answer {
             Err(why) => Ok(Some(Stop::Refused(why))),
-            Ok(NetDid::Ran { event }) => self.ran(replica, event, sent, said),
-            Ok(NetDid::Void { why, message }) => self.void(why, message, said),
+            Ok(NetDid::Ran { event }) => self.ran(replica, event, sent),
+            Ok(NetDid::Void { why, message }) => self.void(why, message),
             Ok(NetDid::Awaits { id }) => {
-                if tells {
-                    said.push(Said::Awaits(id))?;
+                if !tells {
+                    return Ok(None);
                 }
+                self.said.push(Said::Awaits(id))?;
                 Ok(None)
             }
             Ok(_) => Ok(None),
@@ -295,33 +280,23 @@ impl<R: Runner + Drop> Simulation<R> {
         replica: u32,
         message: u32,
         tells: bool,
-        said: &mut Vec<Said>,
     ) -> Result<Option<Stop>, AllocError>
-        ensures { IfOk result
-            (λ stop. Does (λ d w. hears_grant d w replica message tells) self.old said.old.items
-            (record { said = said.new.items; stop = stop; sim = self.new })) }
+        ensures { Does (λ d w. hears_grant d w replica message tells) self.old self.new result }
     {
         let sent = as_number(self.net.messages().len())?;
         let answer = go(&mut self.net, &NetStep::Hear { replica, message })?;
-        self.granted(replica, sent, tells, answer, said)
+        self.granted(replica, sent, tells, answer)
     }
 
     // A call waits: the manager gets its request twice, and its replica hears the first grant.
-    fn ask(
-        &mut self,
-        replica: u32,
-        request: u32,
-        said: &mut Vec<Said>,
-    ) -> Result<Option<Stop>, AllocError>
-        ensures { IfOk result
-            (λ stop. Does (λ d w. asks d w replica request) self.old said.old.items
-            (record { said = said.new.items; stop = stop; sim = self.new })) }
+    fn ask(&mut self, replica: u32, request: u32) -> Result<Option<Stop>, AllocError>
+        ensures { Does (λ d w. asks d w replica request) self.old self.new result }
     {
         let grant = as_number(self.net.messages().len())?;
         let _ = go(&mut self.net, &NetStep::Ask { request })?;
         let _ = go(&mut self.net, &NetStep::Ask { request })?;
         set_number(&mut self.grants, replica, grant);
-        self.hear_grant(replica, grant, true, said)
+        self.hear_grant(replica, grant, true)
     }
 
     // What a replica answers to a call, before which so many messages had been sent.
@@ -330,68 +305,46 @@ impl<R: Runner + Drop> Simulation<R> {
         replica: u32,
         sent: u32,
         answer: Result<NetDid, SimulateRefused>,
-        said: &mut Vec<Said>,
     ) -> Result<Option<Stop>, AllocError>
-        ensures { IfOk result
-            (λ stop. Does (λ d w. begun d w replica sent answer) self.old said.old.items
-            (record { said = said.new.items; stop = stop; sim = self.new })) }
+        ensures { Does (λ d w. begun d w replica sent answer) self.old self.new result }
     {
         match answer {
             Err(why) => Ok(Some(Stop::Refused(why))),
-            Ok(NetDid::Ran { event }) => self.ran(replica, event, sent, said),
-            Ok(NetDid::Void { why, message }) => self.void(why, message, said),
-            Ok(NetDid::Asked { request }) => self.ask(replica, request, said),
+            Ok(NetDid::Ran { event }) => self.ran(replica, event, sent),
+            Ok(NetDid::Void { why, message }) => self.void(why, message),
+            Ok(NetDid::Asked { request }) => self.ask(replica, request),
             Ok(_) => Ok(None),
         }
     }
 
     /// A replica makes a call.
-    pub fn call(
-        &mut self,
-        replica: u32,
-        call: Call,
-        said: &mut Vec<Said>,
-    ) -> Result<Option<Stop>, AllocError>
-        ensures { IfOk result
-            (λ stop. Does (λ d w. begins d w replica call) self.old said.old.items
-            (record { said = said.new.items; stop = stop; sim = self.new })) }
+    pub fn call(&mut self, replica: u32, call: Call) -> Result<Option<Stop>, AllocError>
+        ensures { Does (λ d w. begins d w replica call) self.old self.new result }
     {
         let sent = as_number(self.net.messages().len())?;
         let answer = go(&mut self.net, &NetStep::Begin { replica, call })?;
-        self.begun(replica, sent, answer, said)
+        self.begun(replica, sent, answer)
     }
 
     // Where a call of a replica waits, it hears its grant again.
-    fn try_again(&mut self, replica: u32, said: &mut Vec<Said>) -> Result<Option<Stop>, AllocError>
-        ensures { IfOk result
-            (λ stop. Does (λ d w. tries_again d w replica) self.old said.old.items
-            (record { said = said.new.items; stop = stop; sim = self.new })) }
+    fn try_again(&mut self, replica: u32) -> Result<Option<Stop>, AllocError>
+        ensures { Does (λ d w. tries_again d w replica) self.old self.new result }
     {
         if !is_waiting(&self.net, replica) {
             return Ok(None);
         }
         let grant = number_at(&self.grants, replica).unwrap_or(0);
-        self.hear_grant(replica, grant, false, said)
+        self.hear_grant(replica, grant, false)
     }
 
     // A replica took an event. The invariants are asked before a call that waits hears its grant again.
-    fn took(
-        &mut self,
-        replica: u32,
-        event: u32,
-        said: &mut Vec<Said>,
-    ) -> Result<Option<Stop>, AllocError>
-        ensures { IfOk result
-            (λ stop. Does
-            (λ d w sim. saying (Said.Take event)
-            (asked_at d w replica sim (tries_again d w replica sim)))
-            self.old said.old.items
-            (record { said = said.new.items; stop = stop; sim = self.new })) }
+    fn took(&mut self, replica: u32, event: u32) -> Result<Option<Stop>, AllocError>
+        ensures { Does (λ d w. took d w replica event) self.old self.new result }
     {
-        said.push(Said::Take(event))?;
+        self.said.push(Said::Take(event))?;
         match ask_invariants(&self.net, &mut self.unbroken, replica) {
             Some(place) => Ok(Some(Stop::Broken(place))),
-            None => self.try_again(replica, said),
+            None => self.try_again(replica),
         }
     }
 
@@ -401,20 +354,18 @@ impl<R: Runner + Drop> Simulation<R> {
         replica: u32,
         event: u32,
         did: &NetDid,
-        said: &mut Vec<Said>,
     ) -> Result<Option<Stop>, AllocError>
-        ensures { IfOk result
-            (λ stop. Does (λ d w. taken d w replica event (Ok did.now)) self.old said.old.items
-            (record { said = said.new.items; stop = stop; sim = self.new })) }
+        ensures { Does (λ d w. taken d w replica event (Ok did.now)) self.old self.new result }
     {
         match did {
-            NetDid::Took { .. } => self.took(replica, event, said),
+            NetDid::Took { .. } => self.took(replica, event),
             NetDid::Awaits { id } => {
-                said.push(Said::Early(number_of(self.net.events(), *id)))?;
+                self.said
+                    .push(Said::Early(number_of(self.net.events(), *id)))?;
                 Ok(None)
             }
             NetDid::Old => {
-                said.push(Said::Old(event))?;
+                self.said.push(Said::Old(event))?;
                 Ok(None)
             }
             _ => Ok(None),
@@ -427,35 +378,24 @@ impl<R: Runner + Drop> Simulation<R> {
         replica: u32,
         event: u32,
         answer: Result<NetDid, SimulateRefused>,
-        said: &mut Vec<Said>,
     ) -> Result<Option<Stop>, AllocError>
-        ensures { IfOk result
-            (λ stop. Does (λ d w. taken d w replica event answer) self.old said.old.items
-            (record { said = said.new.items; stop = stop; sim = self.new })) }
+        ensures { Does (λ d w. taken d w replica event answer) self.old self.new result }
     {
         match answer {
-            Ok(did) => self.heard_done(replica, event, &did, said),
+            Ok(did) => self.heard_done(replica, event, &did),
             Err(why) => Ok(Some(Stop::Refused(why))),
         }
     }
 
     /// A replica takes an event, whose Done has this number.
-    pub fn take(
-        &mut self,
-        replica: u32,
-        event: u32,
-        done: u32,
-        said: &mut Vec<Said>,
-    ) -> Result<Option<Stop>, AllocError>
-        ensures { IfOk result
-            (λ stop. Does (λ d w. takes d w replica event (Some done)) self.old said.old.items
-            (record { said = said.new.items; stop = stop; sim = self.new })) }
+    pub fn take(&mut self, replica: u32, event: u32, done: u32) -> Result<Option<Stop>, AllocError>
+        ensures { Does (λ d w. takes d w replica event (Some done)) self.old self.new result }
     {
         let heard = NetStep::Hear {
             replica,
             message: done,
         };
         let answer = go(&mut self.net, &heard)?;
-        self.taken(replica, event, answer, said)
+        self.taken(replica, event, answer)
     }
 }

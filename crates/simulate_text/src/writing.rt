@@ -15,7 +15,7 @@ ghost use Rattle.simulate_text.specs.Reached.{simulated_in, IsAsked, IsFirst, Do
 ghost use Rattle.simulate_text.specs.Reached.{IsReached};
 
 use crate::lines::{push_lines, push_stop};
-use crate::said::{Said, SimulateRefused, Stop};
+use crate::said::{SimulateRefused, Stop};
 use crate::simulation::{Simulation, as_number, broken_of, number_at};
 use byte_ports::{ACCEPTED, Answer, REFUSED, REJECTED};
 use items::Items;
@@ -43,18 +43,15 @@ fn call_named<R: Runner + Drop>(
     replica: u32,
     name: &[u8],
     args: &[i64],
-    said: &mut Vec<Said>,
 ) -> Result<Option<Stop>, AllocError>
-    ensures { IfOk result
-        (λ stop. Does (λ d w. calls d w replica args.now (named_operation d name.now)) sim.old
-        said.old.items
-        (record { said = said.new.items; stop = stop; sim = sim.new })) }
+    ensures { Does (λ d w. calls d w replica args.now (named_operation d name.now)) sim.old sim.new
+        result }
 {
     let Some(op) = operation_named(sim.net.runner().spec(), name) else {
         return Ok(Some(Stop::Refused(SimulateRefused::Operation)));
     };
     let args = Items::from_slice(alloc, args)?;
-    sim.call(replica, Call { op, args }, said)
+    sim.call(replica, Call { op, args })
 }
 
 // A replica takes an event by its number.
@@ -62,15 +59,12 @@ fn take_numbered<R: Runner + Drop>(
     sim: &mut Simulation<R>,
     replica: u32,
     event: u32,
-    said: &mut Vec<Said>,
 ) -> Result<Option<Stop>, AllocError>
-    ensures { IfOk result
-        (λ stop. Does (λ d w s. takes d w replica event (slice_get s.dones event) s) sim.old
-        said.old.items
-        (record { said = said.new.items; stop = stop; sim = sim.new })) }
+    ensures { Does (λ d w s. takes d w replica event (slice_get s.dones event) s) sim.old sim.new
+        result }
 {
     match number_at(&sim.dones, event) {
-        Some(done) => sim.take(replica, event, done, said),
+        Some(done) => sim.take(replica, event, done),
         None => Ok(Some(Stop::Refused(SimulateRefused::NoEvent))),
     }
 }
@@ -80,20 +74,17 @@ fn carry_out<R: Runner + Drop>(
     alloc: Global,
     sim: &mut Simulation<R>,
     step: &Step,
-    said: &mut Vec<Said>,
 ) -> Result<Option<Stop>, AllocError>
-    ensures { IfOk result
-        (λ stop. Does (λ d w. part_of d w step.now) sim.old said.old.items
-        (record { said = said.new.items; stop = stop; sim = sim.new })) }
+    ensures { Does (λ d w. part_of d w step.now) sim.old sim.new result }
 {
     if replica_of(step) as usize >= sim.net.replica_count() {
         return Ok(Some(Stop::Refused(SimulateRefused::Replica)));
     }
     match step {
         Step::Call { replica, op, args } => {
-            call_named(alloc, sim, *replica, op.bytes(), args.as_slice(), said)
+            call_named(alloc, sim, *replica, op.bytes(), args.as_slice())
         }
-        Step::Take { replica, event } => take_numbered(sim, *replica, *event, said),
+        Step::Take { replica, event } => take_numbered(sim, *replica, *event),
     }
 }
 
@@ -112,10 +103,16 @@ fn write_step<R: Runner + Drop>(
         (said_lines spec.now number (replica_of step.now)) text.old.items
         (record { text = text.new.items; stop = stop; sim = sim.new })) }
 {
-    let mut said = Vec::new(alloc);
-    let stop = carry_out(alloc, sim, step, &mut said)?;
-    push_lines(alloc, text, spec, number, replica_of(step), said.as_slice())?;
-    Ok(stop)
+    sim.said.clear();
+    let stop = carry_out(alloc, sim, step)?;
+    let replica = replica_of(step);
+    match push_lines(alloc, text, spec, number, replica, sim.said.as_slice()) {
+        Ok(()) => Ok(stop),
+        Err(error) => {
+            drop(stop);
+            Err(error)
+        }
+    }
 }
 
 /// How a simulation has stopped, and at which step.

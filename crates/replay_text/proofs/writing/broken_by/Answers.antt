@@ -16,7 +16,7 @@ pub returns : goal.returns
 returns g c =
     let d = c.args.spec.now in let p = c.args.replay.now in let l = c.requires.led in
     let state : reads c.state_of.result.now ≡ state_at d p.world p.held c.args.replica
-    = c.state_of.ensures.reads ∙ ap (λ (x : Specification). state_of x p.world p.held (get_or p.held.taken c.args.replica [])) c.requires.spec in
+    = c.state_of.ensures.reads ∙ ap (λ (x : Specification). state_of x p.world p.held (get_or p.held.taken c.args.replica [])) c.requires.replica.spec in
     let call : l.call ≡ c.call_of.result.now = one_call l.call c.call_of.result.now (sym l.is_call ∙ c.call_of.ensures) in
     let went : reads c.state_of.result.now ≡ after d c.world.result.now c.call_of.result.now l.before
     = state ∙ l.leads ∙ (λ i. after d (sym c.world.ensures.value i) (call i) l.before) in

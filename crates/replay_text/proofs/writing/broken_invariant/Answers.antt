@@ -11,4 +11,4 @@ returns g c =
     let d = c.args.spec.now in let p = c.args.replay.now in
     c.invariant_broken_at.ensures
     ∙ ap (λ (w : World). broken_at d w (reads c.state_of.result.now)) c.world.ensures.value
-    ∙ ap (broken_at d p.world) (c.state_of.ensures.reads ∙ ap (λ (x : Specification). state_of x p.world p.held (get_or p.held.taken c.args.replica [])) c.requires.spec)
+    ∙ ap (broken_at d p.world) (c.state_of.ensures.reads ∙ ap (λ (x : Specification). state_of x p.world p.held (get_or p.held.taken c.args.replica [])) c.requires.replica.spec)

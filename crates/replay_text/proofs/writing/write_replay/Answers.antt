@@ -16,4 +16,4 @@ returns-clause-text g c =
     let d = c.args.spec.now in let w = c.args.replay.now.world in let ss = c.args.steps.now in let after = c.write_course.new.replay in
     whole_text d w ss (course d w c.args.replicas ss) c.args.text.now.items c.push.new.text.items c.write_course.new.text.items c.push_stop.new.text.items c.push_replicas.new.text.items
     c.in_ok-stopped.stopped.accepted c.in_ok-stopped.stopped.stop after.held c.in_ok-push.ensures c.in_ok-stopped.ensures.reached c.in_ok-push_stop.ensures
-    (subst (λ (v : World). c.push_replicas.new.text.items ≡ c.push_stop.new.text.items ++ replica_texts d v after.held 0 after.held.taken) c.in_ok-stopped.ensures.world c.in_ok-push_replicas.ensures)
+    (subst (λ (v : World). c.push_replicas.new.text.items ≡ c.push_stop.new.text.items ++ replica_texts d v after.held 0 after.held.taken) c.in_ok-stopped.ensures.setting.world c.in_ok-push_replicas.ensures)

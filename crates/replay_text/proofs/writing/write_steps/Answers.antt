@@ -19,7 +19,7 @@ loop-number-preserved g c =
     leads_on c.args.spec.now c.args.replay.now.world c.args.replay.now.held c.args.steps.now c.args.text.now.items c.loop-number.text.items c.loop-number.number
     c.loop-number.replay c.loop-number.invariant c.index-steps-number.result c.loop-number-test.true c.index-steps-number.is
     c.in-Accepted.event None c.carry_out.new.replay step c.push_step.new.text.items c.in_ok-push_step-in-Accepted.ensures refl
-    c.in_ok-event.ensures.world c.in_ok-event.ensures.spec c.is_held.ensures
+    c.in_ok-event.ensures.setting.world c.in_ok-event.ensures.setting.spec c.is_held.ensures
 
 pub carry_out-requires-clause-holds : goal.carry_out-requires-clause-holds
 carry_out-requires-clause-holds g c =

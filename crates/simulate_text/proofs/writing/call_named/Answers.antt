@@ -1,4 +1,4 @@
-use Rattle.std.proofs.Common.{sym, ap, ◌∙◌}
+use Rattle.std.proofs.Common.{refl, sym, ap, ◌∙◌}
 use Rattle.spec_core.specs.declared.world.Call.{Call}
 use Rattle.spec_core.specs.Specification.{Specification}
 use Rattle.replica_replay.specs.Steps.{operation_named}
@@ -11,7 +11,7 @@ pub returns : goal.returns
 returns g c =
     let old = c.args.sim.now in let r = c.args.replica in
     let call : Call = record { op = c.in-Some.op; args = c.in_ok-args.args } in
-    does_from c.call.result (λ d w. begins d w r call) (λ d w. calls d w r c.args.args.now (operation_named d c.args.name.now)) old old c.args.said.now.items c.call.new.said.items c.call.new.self
+    does_from c.call.result (λ d w. begins d w r call) (λ d w. calls d w r c.args.args.now (operation_named d c.args.name.now)) old old c.call.new.self refl
     (λ d w asked. (
       asked,
       calls_part d w (simulated_in old) r c.in-Some.op c.args.name.now c.args.args.now c.in_ok-args.args

@@ -1,4 +1,4 @@
-use Rattle.std.proofs.Common.{◌≡◌, ℕ, ◌≤◌, None, Some, sym}
+use Rattle.std.proofs.Common.{ℕ, ◌≤◌, None, Some, sym}
 use Rattle.std.proofs.lemmas.Result.{IfOk-weaker}
 use Rattle.spec_core.specs.declared.world.World.{World}
 use Rattle.simulate_text.specs.Course.{course_from, course}

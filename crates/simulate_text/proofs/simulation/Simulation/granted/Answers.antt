@@ -1,4 +1,4 @@
-use Rattle.std.proofs.Common.{Result, Ok, ap, ◌∙◌}
+use Rattle.std.proofs.Common.{refl, Result, Ok, ap, ◌∙◌}
 use Rattle.token_protocol.specs.declared.network.NetDid.{NetDid}
 use Rattle.simulate_text.specs.declared.said.SimulateRefused.{SimulateRefused}
 use Rattle.simulate_text.specs.Course.{ran, void, granted}
@@ -9,11 +9,11 @@ use Rattle.simulate_text.proofs.simulation.Simulation.granted.Goals as goal
 pub returns-in-Ok-Ran : goal.returns-in-Ok-Ran
 returns-in-Ok-Ran g c =
     let old = c.args.self.now in
-    does_from c.ran.result (λ d w. ran d w c.args.replica c.in-Ok-Ran.event c.args.sent) (λ d w. granted d w (grant_heard c.args.replica c.args.sent c.args.tells) c.args.answer) old old c.args.said.now.items c.ran.new.said.items c.ran.new.self
+    does_from c.ran.result (λ d w. ran d w c.args.replica c.in-Ok-Ran.event c.args.sent) (λ d w. granted d w (grant_heard c.args.replica c.args.sent c.args.tells) c.args.answer) old old c.ran.new.self refl
     (λ d w asked. (asked, ap (λ (x : Result NetDid SimulateRefused). granted d w (grant_heard c.args.replica c.args.sent c.args.tells) x (simulated_in old)) (c.in-Ok-Ran.is ∙ ap Ok c.in-Ok-Ran.field-0-is))) c.ran.ensures
 
 pub returns-in-Ok-Void : goal.returns-in-Ok-Void
 returns-in-Ok-Void g c =
     let old = c.args.self.now in
-    does_from c.void.result (λ d w. void d w c.in-Ok-Void.why c.in-Ok-Void.message) (λ d w. granted d w (grant_heard c.args.replica c.args.sent c.args.tells) c.args.answer) old old c.args.said.now.items c.void.new.said.items c.void.new.self
+    does_from c.void.result (λ d w. void d w c.in-Ok-Void.why c.in-Ok-Void.message) (λ d w. granted d w (grant_heard c.args.replica c.args.sent c.args.tells) c.args.answer) old old c.void.new.self refl
     (λ d w asked. (asked, ap (λ (x : Result NetDid SimulateRefused). granted d w (grant_heard c.args.replica c.args.sent c.args.tells) x (simulated_in old)) (c.in-Ok-Void.is ∙ ap Ok c.in-Ok-Void.field-0-is))) c.void.ensures

@@ -1,4 +1,4 @@
-use Rattle.std.proofs.Common.{length, sym, ap, ◌∙◌}
+use Rattle.std.proofs.Common.{refl, length, sym, ap, ◌∙◌}
 use Rattle.token_core.specs.HeldNet.{network_held}
 use Rattle.simulate_text.specs.declared.simulation.Simulation.{Simulation}
 use Rattle.simulate_text.specs.Course.{granted, hears_grant}
@@ -9,9 +9,9 @@ use Rattle.simulate_text.proofs.simulation.Simulation.hear_grant.Goals as goal
 pub returns : goal.returns
 returns g c =
     let old = c.args.self.now in
-    let mid : Simulation g.row.R.Denot = record { net = c.go.new.net; dones = old.dones; grants = old.grants; unbroken = old.unbroken } in
+    let mid : Simulation g.row.R.Denot = record { net = c.go.new.net; dones = old.dones; grants = old.grants; unbroken = old.unbroken; said = old.said } in
     does_from c.granted.result (λ d w. granted d w (grant_heard c.args.replica c.in_ok-sent.sent c.args.tells) c.in_ok-answer.answer)
-    (λ d w. hears_grant d w c.args.replica c.args.message c.args.tells) mid old c.args.said.now.items c.granted.new.said.items c.granted.new.self
+    (λ d w. hears_grant d w c.args.replica c.args.message c.args.tells) mid old c.granted.new.self refl
     (λ d w asked.
     let gone = c.in_ok-answer.ensures.gone d w asked.of in (
       record { of = gone.of; unbroken = c.in_ok-answer.ensures.unbroken old.unbroken.items asked.unbroken },
