@@ -1,15 +1,17 @@
 -- What the code of a check has done after each of its steps.
-use Rattle.std.specs.Prelude.{◌≡◌, ℕ, suc, List, [], ◌∷◌, length, Option, Result, Ok, Err, take}
+use Rattle.std.specs.Prelude.{◌≡◌, ◌≤◌, ℕ, suc, List, [], ◌∷◌, length, Option, Result, Ok, Err, IfErr, take}
+use Rattle.std.specs.List.{Contains}
 use Rattle.std.specs.Io.KnownBytes.{Appends}
 use Rattle.spec_core.specs.Specification.{Specification}
 use Rattle.obligation_list.specs.declared.obligation.Obligation.{Obligation}
-use Rattle.obligation_list.specs.Obligations.{obligations_of}
+use Rattle.obligation_list.specs.Obligations.{IsObligation, obligations_of}
 use Rattle.report_lines.specs.declared.head.Tally.{Tally}
 use Rattle.proof_report.specs.declared.verdict.Verdict.{Verdict}
 use Rattle.proof_report.specs.Verdicts.{VerdictForm, obligation_at}
 use Rattle.proof_report.specs.Events.{with_verdict}
 use Rattle.proof_report.specs.Texts.{block_text}
 use Rattle.report_bytes.specs.Showing.{shown_verdict, blocks_text, IsFit}
+use Rattle.byte_ports.specs.Faults.{IsFault}
 use Rattle.byte_ports.specs.declared.text.WriteOut.{WriteOut}
 use Rattle.byte_ports.specs.declared.text.WriteOut.TheVariants.{Fault, Memory}
 use Rattle.check_run.specs.Good.{IsGood, AreGood, AreGoodSoFar}
@@ -25,6 +27,16 @@ pub record IsWritable (d : Specification) (budget : ℕ) (ob : Obligation)
     (v : Verdict) : Type 0 where
   pub good : IsGood d budget ob (shown_verdict d v)
   pub fit : IsFit d written_version ob v
+
+-- These are the obligations of a specification, in their order, and few enough to be counted in a report.
+pub record AreListed (d : Specification) (obs : List Obligation) : Type 0 where
+  pub list : obs ≡ obligations_of d
+  pub members : (ob : Obligation) → Contains obs ob → IsObligation d ob
+  pub few : length obs ≤ 12208
+
+-- where a sink's fault is answered, the sink has told of one
+abbrev pub HasTold : {A : Type 0} → ℕ → ℕ → Result A WriteOut → Type 0
+HasTold before after result = IfErr result (λ why. why ≡ Fault → IsFault before after)
 
 -- How far a text was written: what was counted so far, and what the sink holds.
 pub record Progress (T : Type 0) : Type 0 where

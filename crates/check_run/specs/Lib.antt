@@ -3,4 +3,5 @@ pub mod Good
 pub mod Reports
 pub mod Fitting
 pub mod Decided
+pub mod Asked
 pub mod Checking

@@ -1,18 +1,16 @@
 // The report of a specification, written block by block.
-ghost use Rattle.std.specs.Prelude.{◌≡◌, ◌<◌, ◌≤◌, ◌+◌, ◌^◌, ℕ, List, true, length, IfOk, IfErr};
-ghost use Rattle.std.specs.Io.KnownBytes.{Appends};
+ghost use Rattle.std.specs.Prelude.{◌≡◌, ◌<◌, ◌≤◌, ◌^◌, IfErr};
 ghost use Rattle.byte_ports.specs.Faults.{IsFault};
 ghost use Rattle.byte_ports.specs.Written.{IsText};
 ghost use Rattle.byte_ports.specs.declared.text.WriteOut.TheVariants.{Fault};
-ghost use Rattle.obligation_list.specs.Obligations.{IsObligation, obligations_of};
-ghost use Rattle.obligation_list.specs.declared.obligation.Obligation.{Obligation};
-ghost use Rattle.std.specs.List.{Contains};
+ghost use Rattle.obligation_list.specs.Obligations.{IsObligation};
 ghost use Rattle.proof_report.specs.Verdicts.{obligation_count};
 ghost use Rattle.proof_report.specs.Texts.{head_text, end_text};
 ghost use Rattle.proof_report.specs.Events.{told};
 ghost use Rattle.lazy_ground.specs.Cache.{AreKept};
 ghost use Rattle.check_run.specs.Reports.{written_version};
-ghost use Rattle.check_run.specs.Checking.{progress, IsBlock, AreBlocks, IsReport};
+ghost use Rattle.check_run.specs.Checking.{AreListed, HasTold, progress, IsBlock};
+ghost use Rattle.check_run.specs.Checking.{AreBlocks, IsReport};
 
 use crate::counting::counted;
 use crate::deciding::decide_next;
@@ -39,8 +37,7 @@ fn check_one<K: Sink>(
     ensures block { let asked = question.now in
         IsBlock asked.spec.now asked.budget asked.ob.now (progress tally.old (K.held out.old))
         (progress tally.new (K.held out.new)) result }
-    ensures fault { IfErr result
-        (λ why. why ≡ Fault → IsFault (K.faults out.old) (K.faults out.new)) }
+    ensures fault { HasTold (K.faults out.old) (K.faults out.new) result }
     ensures never_falls { K.faults out.old ≤ K.faults out.new }
     ensures kept { AreKept question.now.spec.now cache.new }
 {
@@ -76,14 +73,11 @@ fn check_from<K: Sink>(
     cache: &mut KeptCache,
     out: &mut K,
 ) -> Result<Tally, WriteOut>
-    requires listed { obligations.now ≡ obligations_of spec.now }
-    requires members { (ob : Obligation) → Contains obligations.now ob → IsObligation spec.now ob }
+    requires listed { AreListed spec.now obligations.now }
     requires budget { 1 ≤ budget }
-    requires few { length obligations.now ≤ 12208 }
     requires kept { AreKept spec.now cache.old }
     ensures blocks { AreBlocks spec.now budget (K.held out.old) (K.held out.new) result }
-    ensures fault { IfErr result
-        (λ why. why ≡ Fault → IsFault (K.faults out.old) (K.faults out.new)) }
+    ensures fault { HasTold (K.faults out.old) (K.faults out.new) result }
     ensures never_falls { K.faults out.old ≤ K.faults out.new }
 {
     let mut tally = Tally {
@@ -109,13 +103,10 @@ fn check_each<K: Sink>(
     obligations: &[Obligation],
     out: &mut K,
 ) -> Result<Tally, WriteOut>
-    requires listed { obligations.now ≡ obligations_of spec.now }
-    requires members { (ob : Obligation) → Contains obligations.now ob → IsObligation spec.now ob }
+    requires listed { AreListed spec.now obligations.now }
     requires budget { 1 ≤ budget }
-    requires few { length obligations.now ≤ 12208 }
     ensures blocks { AreBlocks spec.now budget (K.held out.old) (K.held out.new) result }
-    ensures fault { IfErr result
-        (λ why. why ≡ Fault → IsFault (K.faults out.old) (K.faults out.new)) }
+    ensures fault { HasTold (K.faults out.old) (K.faults out.new) result }
     ensures never_falls { K.faults out.old ≤ K.faults out.new }
 {
     let mut cache = KeptCache::new(alloc);
@@ -135,8 +126,7 @@ fn write_opening<K: Sink>(
     requires { obligations ≡ obligation_count spec.now }
     ensures text { IsText (head_text spec.now written_version budget) (K.held out.old)
         (K.held out.new) result }
-    ensures fault { IfErr result
-        (λ why. why ≡ Fault → IsFault (K.faults out.old) (K.faults out.new)) }
+    ensures fault { HasTold (K.faults out.old) (K.faults out.new) result }
     ensures never_falls { K.faults out.old ≤ K.faults out.new }
 {
     let mut text = Vec::new(alloc);
@@ -149,8 +139,7 @@ fn write_opening<K: Sink>(
 // The lines behind the blocks.
 fn write_closing<K: Sink>(alloc: Global, tally: Tally, out: &mut K) -> Result<(), WriteOut>
     ensures text { IsText (end_text tally) (K.held out.old) (K.held out.new) result }
-    ensures fault { IfErr result
-        (λ why. why ≡ Fault → IsFault (K.faults out.old) (K.faults out.new)) }
+    ensures fault { HasTold (K.faults out.old) (K.faults out.new) result }
     ensures never_falls { K.faults out.old ≤ K.faults out.new }
 {
     let mut text = Vec::new(alloc);
@@ -168,13 +157,10 @@ fn check_listed<K: Sink>(
     obligations: &[Obligation],
     out: &mut K,
 ) -> Result<Tally, WriteOut>
-    requires listed { obligations.now ≡ obligations_of spec.now }
-    requires members { (ob : Obligation) → Contains obligations.now ob → IsObligation spec.now ob }
+    requires listed { AreListed spec.now obligations.now }
     requires budget { 1 ≤ budget }
-    requires few { length obligations.now ≤ 12208 }
     ensures report { IsReport spec.now budget (K.held out.old) (K.held out.new) result }
-    ensures fault { IfErr result
-        (λ why. why ≡ Fault → IsFault (K.faults out.old) (K.faults out.new)) }
+    ensures fault { HasTold (K.faults out.old) (K.faults out.new) result }
     ensures never_falls { K.faults out.old ≤ K.faults out.new }
 {
     match write_opening(alloc, spec, budget, obligations.len() as u32, out) {

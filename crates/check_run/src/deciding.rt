@@ -10,6 +10,7 @@ ghost use Rattle.report_bytes.specs.Showing.{shown_verdict, IsFit};
 ghost use Rattle.check_run.specs.Good.{HasFew, HasMany, IsGood};
 ghost use Rattle.check_run.specs.Fitting.{HasShown};
 ghost use Rattle.check_run.specs.Decided.{IsDecided};
+ghost use Rattle.check_run.specs.Asked.{IsGoodFor, IsFitFor, HasDifferences, IsDecidedFor};
 ghost use Rattle.lazy_ground.specs.Cache.{AreKept};
 ghost use Rattle.diff_bounds.specs.Differences.{problem_fits};
 ghost use Rattle.check_run.specs.Reports.{written_version};
@@ -123,13 +124,9 @@ fn verdict_of(
     requires fitting { let asked = question.now in
         let problem = problem_of asked.spec.now asked.ob.now in
         problem_fits problem ≡ true → IsAnswer false false problem asked.budget answer }
-    ensures good { let asked = question.now in IfOk result
-        (λ v. IsGood asked.spec.now asked.budget asked.ob.now (shown_verdict asked.spec.now v)) }
+    ensures good { IfOk result (λ v. IsGoodFor question.now v) }
     ensures shown { IfOk result (λ v. HasShown question.now.spec.now question.now.ob.now v) }
-    ensures decided { let asked = question.now in
-        let problem = problem_of asked.spec.now asked.ob.now in
-        problem_fits problem ≡ true
-        → IfOk result (λ v. IsDecided (length problem.atoms) asked.budget v) }
+    ensures decided { HasDifferences question.now → IfOk result (λ v. IsDecidedFor question.now v) }
 {
     match answer {
         Answer::Unsat(log) => Ok(Verdict::Proved(log)),
@@ -192,14 +189,9 @@ fn decide_grounded(
     requires member { IsObligation question.now.spec.now question.now.ob.now }
     requires few { HasFew question.now.spec.now question.now.ob.now }
     requires ground { IsGrounded question.now.spec.now question.now.ob.now ground.now }
-    ensures good { let asked = question.now in IfOk result
-        (λ v. IsGood asked.spec.now asked.budget asked.ob.now (shown_verdict asked.spec.now v)) }
-    ensures fit { let asked = question.now in IfOk result
-        (λ v. IsFit asked.spec.now written_version asked.ob.now v) }
-    ensures decided { let asked = question.now in
-        let problem = problem_of asked.spec.now asked.ob.now in
-        problem_fits problem ≡ true
-        → IfOk result (λ v. IsDecided (length problem.atoms) asked.budget v) }
+    ensures good { IfOk result (λ v. IsGoodFor question.now v) }
+    ensures fit { IfOk result (λ v. IsFitFor question.now v) }
+    ensures decided { HasDifferences question.now → IfOk result (λ v. IsDecidedFor question.now v) }
 {
     let problem = pose(alloc, question.spec, question.ob, ground)?;
     let front = front_of(&problem, ground.formulas.as_slice());
@@ -227,14 +219,9 @@ fn decide_whole(
     requires few { HasFew question.now.spec.now question.now.ob.now }
     requires ground { IsGrounded question.now.spec.now question.now.ob.now ground }
     requires taken { HasEntry question.now.spec.now ground }
-    ensures good { let asked = question.now in IfOk result
-        (λ v. IsGood asked.spec.now asked.budget asked.ob.now (shown_verdict asked.spec.now v)) }
-    ensures fit { let asked = question.now in IfOk result
-        (λ v. IsFit asked.spec.now written_version asked.ob.now v) }
-    ensures decided { let asked = question.now in
-        let problem = problem_of asked.spec.now asked.ob.now in
-        problem_fits problem ≡ true
-        → IfOk result (λ v. IsDecided (length problem.atoms) asked.budget v) }
+    ensures good { IfOk result (λ v. IsGoodFor question.now v) }
+    ensures fit { IfOk result (λ v. IsFitFor question.now v) }
+    ensures decided { HasDifferences question.now → IfOk result (λ v. IsDecidedFor question.now v) }
     ensures kept { IsKept question.now.spec.now kept.new }
 {
     let verdict = decide_grounded(alloc, question, &ground, false);
@@ -254,14 +241,9 @@ fn decide_completed(
     requires ground { IsLazyGround question.now.spec.now question.now.ob.now ground }
     requires taken { HasLazyKept question.now.spec.now ground }
     requires kept { IsKept question.now.spec.now kept.old }
-    ensures good { let asked = question.now in IfOk result
-        (λ v. IsGood asked.spec.now asked.budget asked.ob.now (shown_verdict asked.spec.now v)) }
-    ensures fit { let asked = question.now in IfOk result
-        (λ v. IsFit asked.spec.now written_version asked.ob.now v) }
-    ensures decided { let asked = question.now in
-        let problem = problem_of asked.spec.now asked.ob.now in
-        problem_fits problem ≡ true
-        → IfOk result (λ v. IsDecided (length problem.atoms) asked.budget v) }
+    ensures good { IfOk result (λ v. IsGoodFor question.now v) }
+    ensures fit { IfOk result (λ v. IsFitFor question.now v) }
+    ensures decided { HasDifferences question.now → IfOk result (λ v. IsDecidedFor question.now v) }
     ensures kept { IsKept question.now.spec.now kept.new }
 {
     let Ok(whole) = ground.into_whole(alloc, question.spec, question.ob) else {
@@ -284,14 +266,9 @@ fn decide_lazily(
     requires clauses { HasClauses ground }
     requires taken { HasLazyKept question.now.spec.now ground }
     requires kept { IsKept question.now.spec.now kept.old }
-    ensures good { let asked = question.now in IfOk result
-        (λ v. IsGood asked.spec.now asked.budget asked.ob.now (shown_verdict asked.spec.now v)) }
-    ensures fit { let asked = question.now in IfOk result
-        (λ v. IsFit asked.spec.now written_version asked.ob.now v) }
-    ensures decided { let asked = question.now in
-        let problem = problem_of asked.spec.now asked.ob.now in
-        problem_fits problem ≡ true
-        → IfOk result (λ v. IsDecided (length problem.atoms) asked.budget v) }
+    ensures good { IfOk result (λ v. IsGoodFor question.now v) }
+    ensures fit { IfOk result (λ v. IsFitFor question.now v) }
+    ensures decided { HasDifferences question.now → IfOk result (λ v. IsDecidedFor question.now v) }
     ensures kept { IsKept question.now.spec.now kept.new }
 {
     match search_lazily(alloc, question.spec, question.ob, &ground, question.budget) {
@@ -316,16 +293,12 @@ fn decide_lazily(
 fn decide_from(alloc: Global, question: &Question, kept: &mut Kept) -> Result<Verdict, AllocError>
     requires member { IsObligation question.now.spec.now question.now.ob.now }
     requires kept { IsKept question.now.spec.now kept.old }
-    ensures good { let asked = question.now in IfOk result
-        (λ v. IsGood asked.spec.now asked.budget asked.ob.now (shown_verdict asked.spec.now v)) }
-    ensures fit { let asked = question.now in IfOk result
-        (λ v. IsFit asked.spec.now written_version asked.ob.now v) }
+    ensures good { IfOk result (λ v. IsGoodFor question.now v) }
+    ensures fit { IfOk result (λ v. IsFitFor question.now v) }
     ensures many { HasMany question.now.spec.now question.now.ob.now
         → IfOk result (λ v. v ≡ Undecided Instances) }
-    ensures decided { let asked = question.now in
-        let problem = problem_of asked.spec.now asked.ob.now in
-        HasFew asked.spec.now asked.ob.now → problem_fits problem ≡ true
-        → IfOk result (λ v. IsDecided (length problem.atoms) asked.budget v) }
+    ensures decided { HasFew question.now.spec.now question.now.ob.now → HasDifferences question.now
+        → IfOk result (λ v. IsDecidedFor question.now v) }
     ensures kept { IsKept question.now.spec.now kept.new }
 {
     let taken = mem::replace(kept, Kept::none());

@@ -1,6 +1,6 @@
 -- What the code of a suggestion has done after each of its steps.
 use Rattle.std.specs.Prelude.{◌≡◌, ℕ, Bool, List, [], ◌∷◌, ◌++◌, length, Option, Result, Ok, Err, take}
-use Rattle.std.specs.List.{flat_map}
+use Rattle.std.specs.List.{flat_map, Contains}
 use Rattle.std.specs.Io.KnownBytes.{Appends}
 use Rattle.spec_core.specs.Specification.{Specification}
 use Rattle.obligation_list.specs.Obligations.{IsObligation}
@@ -10,7 +10,7 @@ use Rattle.byte_ports.specs.declared.text.WriteOut.TheVariants.{Fault, Memory}
 use Rattle.check_run.specs.Checking.{Progress}
 use Rattle.conflict_variants.specs.Bare.{bare}
 use Rattle.conflict_variants.specs.Keyed.{keyed}
-use Rattle.suggest.specs.Pairs.{pairs_of}
+use Rattle.suggest.specs.Pairs.{IsPair, pairs_of}
 use Rattle.report_lines.specs.Words.{line_text}
 use Rattle.report_lines.specs.Blocks.{operation_name}
 use Rattle.suggest.specs.Answers.{is_refuted, IsFoundIn, IsAnswer, AreAnswers, AreAnswersSoFar, AreKeyAnswers, with_answer, counted}
@@ -22,6 +22,11 @@ use Rattle.suggest.specs.declared.answer.Found.TheVariants as found
 use Rattle.suggest.specs.declared.answer.KeyAnswer.{KeyAnswer}
 use Rattle.suggest.specs.declared.answer.PairAnswer.{PairAnswer}
 use Rattle.suggest.specs.declared.answer.SuggestTally.{SuggestTally}
+
+-- These are the pairs of a specification's operations, in their order.
+pub record AreListed (d : Specification) (pairs : List Pair) : Type 0 where
+  pub list : pairs ≡ pairs_of d
+  pub members : (x : Pair) → Contains pairs x → IsPair d x.first x.second
 
 -- what is found has a text
 abbrev pub CanBeWritten : Specification → Found → Type 0

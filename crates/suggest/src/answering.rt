@@ -14,9 +14,9 @@ use crate::answer::{Found, Key, KeyAnswer, Pair, PairAnswer};
 use crate::finding::{find_bare, find_in};
 use crate::known::Known;
 use crate::listing::{list_keys, list_pairs};
-use crate::question::Question;
+use crate::question::{Question, keyed_at};
 use crate::writing::is_refuted;
-use conflict_variants::{bare, keyed};
+use conflict_variants::bare;
 use items::Items;
 use obligation_list::Obligation;
 use spec_core::Spec;
@@ -37,14 +37,7 @@ fn key_answer(
         asked.budget asked.pair.first asked.pair.second y.found) }
 {
     let pair = question.pair;
-    let keyed = keyed(
-        known.alloc,
-        question.spec,
-        pair.first,
-        key.p,
-        pair.second,
-        key.q,
-    )?;
+    let keyed = keyed_at(known.alloc, question, key)?;
     let found = or_drop!(find_in(&keyed, question.budget, pair, free, known); keyed);
     drop(keyed);
     Ok(KeyAnswer { key, found })

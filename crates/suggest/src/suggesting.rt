@@ -1,16 +1,14 @@
 // The text of a suggestion, written pair by pair.
 
 ghost use Rattle.std.specs.Prelude.{◌≡◌, ◌≤◌, length, IfErr};
-ghost use Rattle.std.specs.List.{Contains};
 ghost use Rattle.byte_ports.specs.Faults.{IsFault};
 ghost use Rattle.byte_ports.specs.declared.text.WriteOut.TheVariants.{Fault};
 ghost use Rattle.byte_ports.specs.Written.{IsText};
-ghost use Rattle.check_run.specs.Checking.{progress};
+ghost use Rattle.check_run.specs.Checking.{HasTold, progress};
 ghost use Rattle.conflict_variants.specs.Bare.{bare as bare_of};
-ghost use Rattle.suggest.specs.Pairs.{IsPair, pairs_of};
+ghost use Rattle.suggest.specs.Pairs.{pairs_of};
 ghost use Rattle.suggest.specs.Texts.{head_text, end_text};
-ghost use Rattle.suggest.specs.Writing.{IsPairWritten, ArePairs, IsSuggested};
-ghost use Rattle.suggest.specs.declared.answer.Pair.{Pair};
+ghost use Rattle.suggest.specs.Writing.{AreListed, IsPairWritten, ArePairs, IsSuggested};
 
 use crate::answer::{Pair, SuggestTally};
 use crate::listing::list_pairs;
@@ -31,8 +29,7 @@ fn suggest_one<K: Sink>(
     ensures pair { let asked = question.now in
         IsPairWritten asked.spec.now asked.budget asked.pair (progress tally (K.held out.old))
         (K.held out.new) result }
-    ensures fault { IfErr result
-        (λ why. why ≡ Fault → IsFault (K.faults out.old) (K.faults out.new)) }
+    ensures fault { HasTold (K.faults out.old) (K.faults out.new) result }
     ensures never_falls { K.faults out.old ≤ K.faults out.new }
 {
     let mut text = Vec::new(alloc);
@@ -54,13 +51,11 @@ fn suggest_each<K: Sink>(
     pairs: &[Pair],
     out: &mut K,
 ) -> Result<SuggestTally, WriteOut>
-    requires listed { pairs.now ≡ pairs_of spec.now }
-    requires members { (x : Pair) → Contains pairs.now x → IsPair spec.now x.first x.second }
+    requires listed { AreListed spec.now pairs.now }
     requires budget { 1 ≤ budget }
     requires bare { bare.now ≡ bare_of spec.now }
     ensures pairs { ArePairs spec.now budget (K.held out.old) (K.held out.new) result }
-    ensures fault { IfErr result
-        (λ why. why ≡ Fault → IsFault (K.faults out.old) (K.faults out.new)) }
+    ensures fault { HasTold (K.faults out.old) (K.faults out.new) result }
     ensures never_falls { K.faults out.old ≤ K.faults out.new }
 {
     let mut tally = SuggestTally {
@@ -92,8 +87,7 @@ fn write_opening<K: Sink>(
 ) -> Result<(), WriteOut>
     requires { pairs ≡ length (pairs_of spec.now) }
     ensures text { IsText (head_text spec.now) (K.held out.old) (K.held out.new) result }
-    ensures fault { IfErr result
-        (λ why. why ≡ Fault → IsFault (K.faults out.old) (K.faults out.new)) }
+    ensures fault { HasTold (K.faults out.old) (K.faults out.new) result }
     ensures never_falls { K.faults out.old ≤ K.faults out.new }
 {
     let mut text = Vec::new(alloc);
@@ -106,8 +100,7 @@ fn write_opening<K: Sink>(
 // The lines behind the pairs.
 fn write_closing<K: Sink>(alloc: Global, tally: SuggestTally, out: &mut K) -> Result<(), WriteOut>
     ensures text { IsText (end_text tally) (K.held out.old) (K.held out.new) result }
-    ensures fault { IfErr result
-        (λ why. why ≡ Fault → IsFault (K.faults out.old) (K.faults out.new)) }
+    ensures fault { HasTold (K.faults out.old) (K.faults out.new) result }
     ensures never_falls { K.faults out.old ≤ K.faults out.new }
 {
     let mut text = Vec::new(alloc);
@@ -126,13 +119,11 @@ fn suggest_listed<K: Sink>(
     pairs: &[Pair],
     out: &mut K,
 ) -> Result<SuggestTally, WriteOut>
-    requires listed { pairs.now ≡ pairs_of spec.now }
-    requires members { (x : Pair) → Contains pairs.now x → IsPair spec.now x.first x.second }
+    requires listed { AreListed spec.now pairs.now }
     requires budget { 1 ≤ budget }
     requires bare { bare.now ≡ bare_of spec.now }
     ensures suggested { IsSuggested spec.now budget (K.held out.old) (K.held out.new) result }
-    ensures fault { IfErr result
-        (λ why. why ≡ Fault → IsFault (K.faults out.old) (K.faults out.new)) }
+    ensures fault { HasTold (K.faults out.old) (K.faults out.new) result }
     ensures never_falls { K.faults out.old ≤ K.faults out.new }
 {
     match write_opening(alloc, spec, pairs.len(), out) {

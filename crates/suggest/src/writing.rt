@@ -22,8 +22,7 @@ use crate::answer::{Found, Key, SuggestTally};
 use crate::finding::{find_bare, find_in};
 use crate::known::Known;
 use crate::listing::list_keys;
-use crate::question::Question;
-use conflict_variants::keyed;
+use crate::question::{Question, keyed_at};
 use items::Items;
 use itoa::Buffer;
 use obligation_list::Obligation;
@@ -122,14 +121,7 @@ fn write_key(
         (IsKeyAppended asked.spec.now asked.budget asked.pair key text.old.items text.new.items) }
 {
     let pair = question.pair;
-    let keyed = keyed(
-        known.alloc,
-        question.spec,
-        pair.first,
-        key.p,
-        pair.second,
-        key.q,
-    )?;
+    let keyed = keyed_at(known.alloc, question, key)?;
     let found = or_drop!(find_in(&keyed, question.budget, pair, free, known); keyed);
     let first = param_name(question.spec, pair.first, key.p);
     let second = param_name(question.spec, pair.second, key.q);

@@ -16,7 +16,7 @@ loop-ob-preserved g c =
     let mid = g.K.Sink.held c.loop-ob.out in
     let after = g.K.Sink.held c.check_one.new.out in
     let b = c.in-Ok.ensures.block in
-    let listed = c.requires.listed in
+    let listed = c.requires.listed.list in
     let here = subst (λ os. i < length os) listed c.loop-ob-test.true in
     let block = subst (λ os. IsBlock d c.args.budget (get_or os i (Init 0)) (progress c.loop-ob.tally mid) (progress c.check_one.new.tally after) (Ok tt)) listed b in
     let before = c.loop-ob.invariant.2 in
@@ -34,14 +34,14 @@ returns-in-Err-clause-blocks g c =
     let mid = g.K.Sink.held c.loop-ob.out in
     let after = g.K.Sink.held c.check_one.new.out in
     let why = c.in-Err.why in
-    let listed = c.requires.listed in
+    let listed = c.requires.listed.list in
     let here = subst (λ os. i < length os) listed c.loop-ob-test.true in
     let block = subst (λ os. IsBlock d c.args.budget (get_or os i (Init 0)) (progress c.loop-ob.tally mid) (progress c.check_one.new.tally after) (Err why)) listed c.in-Err.ensures.block in
     stopped_written d c.args.budget i c.loop-ob.tally (g.K.Sink.held c.args.out.now) mid after here c.loop-ob.invariant.0 c.check_one.new.tally why block
 
 pub returns-clause-blocks : goal.returns-clause-blocks
 returns-clause-blocks g c =
-    let listed = c.requires.listed in
+    let listed = c.requires.listed.list in
     let most = subst (λ os. length os ≤ c.loop-ob.ob-index) listed c.loop-ob-test.false in
     let least = subst (λ os. c.loop-ob.ob-index ≤ length os) listed c.loop-ob.auto.ob-index-end in
     all_written c.args.spec.now c.args.budget c.loop-ob.ob-index c.loop-ob.tally (g.K.Sink.held c.args.out.now) (g.K.Sink.held c.loop-ob.out) most least c.loop-ob.invariant.0

@@ -13,8 +13,7 @@ pub returns-in_default-bare-clause-suggested : goal.returns-in_default-bare-clau
 returns-in_default-bare-clause-suggested g c = nothing_left c.args.spec.now c.args.budget (g.K.Sink.held c.args.out.now) Memory
 
 pub suggest_listed-suggested-requires-clause-listed : goal.suggest_listed-suggested-requires-clause-listed
-suggest_listed-suggested-requires-clause-listed g c = c.as_slice.ensures ∙ c.in-Ok.ensures.list
-
-pub suggest_listed-suggested-requires-clause-members : goal.suggest_listed-suggested-requires-clause-members
-suggest_listed-suggested-requires-clause-members g c =
-    subst (λ (ps : List Pair). (x : Pair) → Contains ps x → IsPair c.args.spec.now x.first x.second) (sym c.as_slice.ensures) c.in-Ok.ensures.members
+suggest_listed-suggested-requires-clause-listed g c = record {
+  list = c.as_slice.ensures ∙ c.in-Ok.ensures.list;
+  members = subst (λ (ps : List Pair). (x : Pair) → Contains ps x → IsPair c.args.spec.now x.first x.second) (sym c.as_slice.ensures) c.in-Ok.ensures.members;
+}
