@@ -136,7 +136,8 @@ class Listed(unittest.TestCase):
             ]
             self.assertEqual(*((it.returncode, it.stdout) for it in runs))
             entered = noted.entered()
-            self.assertIn("cise_cli::main", entered)
+            # (the compiler may have put it into the function that starts it)
+            self.assertTrue(entered & {"cise_cli::main", "cise_cli::main+start"})
             self.assertLess(len(entered), len(noted.functions) / 2)
             found = noted.found().values()
             self.assertGreater(sum(it in coverage.BOTH_WAYS for it in found), 100)
