@@ -18,3 +18,4 @@ pub mod BlockLines
 pub mod StateLines
 mod ShownCases
 mod LineCases
+mod RangeCases

@@ -29,6 +29,19 @@ other_word {A} {B} k f g (v ∷ ws) rest w is other =
     let t : bytes_eq v k ≡ false = ap (λ (x : List ℕ). bytes_eq x k) p.0 ∙ other in
     rw t refl
 
+-- a form behind a word that must be next
+pub key_word : {A : Type 0} (k : List ℕ) (f : Format A) (ws rest : List (List ℕ)) (w : List ℕ) → next_of ws ≡ Some (w, rest) → bytes_eq w k ≡ true → (behind k f).get ws ≡ f.get rest
+key_word k f [] rest w is same = absurd (none-some _ is)
+key_word k f (v ∷ ws) rest w is same =
+    let p = some_pair_parts v w ws rest is in
+    let t : bytes_eq v k ≡ true = ap (λ (x : List ℕ). bytes_eq x k) p.0 ∙ same in
+    rw t (ap f.get p.1)
+
+-- what was read, seen as another value twice
+pub two_views : {A B C : Type 0} (f : A → B) (g : B → C) (r : Read A) → mapped {A = A} {B = C} (λ (x : A). g (f x)) r ≡ mapped {A = B} {B = C} g (mapped {A = A} {B = B} f r)
+two_views f g None = refl
+two_views f g (Some x) = refl
+
 -- what was read, seen as another value three times
 one_view : {A B C D : Type 0} (f : A → B) (g : B → C) (h : C → D) (r : Read A) → mapped {A = A} {B = D} (λ (x : A). h (g (f x))) r ≡ mapped {A = C} {B = D} h (mapped {A = B} {B = C} g (mapped {A = A} {B = B} f r))
 one_view f g h None = refl

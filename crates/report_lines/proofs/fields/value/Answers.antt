@@ -10,3 +10,6 @@ overflow_cast-result c = grind (arith, common_steps)
 
 pub returns : goal.returns
 returns c = grind (arith, common_steps)
+
+pub returns-then-unsigned_abs-gt1000000000000000 : goal.returns-then-unsigned_abs-gt1000000000000000
+returns-then-unsigned_abs-gt1000000000000000 c = grind (arith, common_steps)
