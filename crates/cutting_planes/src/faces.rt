@@ -13,7 +13,7 @@
 //
 // The search gives up after so many vertices.
 use crate::combining::{Derivation, Multiple, combine, no_rows, row_at};
-use crate::guide::{Proposal, refutation, take_all, try_all};
+use crate::guide::{Found, Proposal, proposal_of, take_all, try_all};
 use crate::joining::{join, join_broken};
 use lin_rows::{Row, RowTerm};
 use simplex::number::{at, put};
@@ -85,8 +85,7 @@ enum Visited {
 #[derive(Drop)]
 enum Next {
     On,
-    Numbers(Vec<i128>),
-    Refuted,
+    Found(Found),
 }
 
 // Adds the assumptions to a tableau.
@@ -342,12 +341,12 @@ fn lower(faces: &mut Faces<'_>, row: u32, depth: usize) -> Option<Next> {
 fn follow(faces: &mut Faces<'_>, alloc: Global, clash: &mut Clash) -> Option<Next> {
     let Some(last) = last_used(clash.levels.as_slice()) else {
         combine(&mut faces.derivation, alloc, clash.rows.as_slice())?;
-        return Some(Next::Refuted);
+        return Some(Next::Found(Found::Refuted));
     };
     add_faces(faces, clash, last)?;
     let row = combine(&mut faces.derivation, alloc, clash.rows.as_slice())?;
     if row_at(&faces.derivation, row)?.is_contradiction() {
-        return Some(Next::Refuted);
+        return Some(Next::Found(Found::Refuted));
     }
     lower(faces, row, last)
 }
@@ -363,26 +362,50 @@ fn next_name(faces: &Faces<'_>) -> Option<u32> {
     found
 }
 
-// Assumes more of a name than its value at a vertex: of the last one, where no row says how far it goes, else of a further one.
-fn assume_more(faces: &mut Faces<'_>, values: &[i128]) -> Option<Next> {
-    let last = faces.levels.last().copied();
-    let mut level = match last {
-        Some(level) if level.row.is_none() => level,
-        _ => Level {
-            name: next_name(faces)?,
-            least: 0,
-            row: None,
-            step: 1,
-        },
-    };
+// The last assumption, where no row says how far it goes.
+fn open_level(faces: &Faces<'_>) -> Option<Level> {
+    let level = faces.levels.last().copied()?;
+    if level.row.is_none() {
+        return Some(level);
+    }
+    None
+}
+
+// What is assumed of a name at first goes one beyond its value.
+fn first_level(name: u32) -> Level {
+    Level {
+        name,
+        least: 0,
+        row: None,
+        step: 1,
+    }
+}
+
+// An assumption that goes its step beyond the value at a vertex.
+fn further(level: Level, values: &[i128]) -> Option<Level> {
     if level.step > FARTHEST_STEP {
         return None;
     }
-    if let Some(Level { row: None, .. }) = last {
+    let least = at(values, level.name as usize).checked_add(level.step)?;
+    let step = level.step.checked_mul(2)?;
+    Some(Level {
+        name: level.name,
+        least,
+        row: None,
+        step,
+    })
+}
+
+// Assumes more of a name than its value at a vertex: of the last one, where no row says how far it goes, else of a further one.
+fn assume_more(faces: &mut Faces<'_>, values: &[i128]) -> Option<Next> {
+    let last = open_level(faces);
+    let level = match last {
+        Some(level) => further(level, values)?,
+        None => further(first_level(next_name(faces)?), values)?,
+    };
+    if last.is_some() {
         let _ = faces.levels.pop();
     }
-    level.least = at(values, level.name as usize).checked_add(level.step)?;
-    level.step = level.step.checked_mul(2)?;
     faces.levels.push(level).ok()?;
     Some(Next::On)
 }
@@ -390,7 +413,7 @@ fn assume_more(faces: &mut Faces<'_>, values: &[i128]) -> Option<Next> {
 // Visits a face, and goes on from what it has.
 fn take_step(faces: &mut Faces<'_>, alloc: Global) -> Option<Next> {
     match visit(faces, alloc)? {
-        Visited::Numbers(values) => Some(Next::Numbers(values)),
+        Visited::Numbers(values) => Some(Next::Found(Found::Numbers(values))),
         Visited::Vertex(values) => {
             let next = assume_more(faces, values.as_slice());
             drop(values);
@@ -404,11 +427,10 @@ fn take_step(faces: &mut Faces<'_>, alloc: Global) -> Option<Next> {
     }
 }
 
-fn step_on(faces: &mut Faces<'_>, alloc: Global) -> Option<Next> {
+fn step_on(faces: &mut Faces<'_>, alloc: Global) -> Option<Found> {
     for _vertex in 0..VERTEX_LIMIT {
-        match take_step(faces, alloc)? {
-            Next::On => {}
-            other => return Some(other),
+        if let Next::Found(found) = take_step(faces, alloc)? {
+            return Some(found);
         }
     }
     None
@@ -436,7 +458,7 @@ pub fn search_faces(alloc: Global, rows: &[Row], names: u32) -> Option<Proposal>
         return None;
     }
     let mut faces = faces_of(alloc, rows, names)?;
-    let next = step_on(&mut faces, alloc);
+    let found = step_on(&mut faces, alloc);
     let Faces {
         derivation,
         names: _,
@@ -446,15 +468,5 @@ pub fn search_faces(alloc: Global, rows: &[Row], names: u32) -> Option<Proposal>
     } = faces;
     drop(levels);
     drop(made);
-    match next {
-        Some(Next::Refuted) => refutation(derivation, alloc),
-        Some(Next::Numbers(values)) => {
-            drop(derivation);
-            Some(Proposal::Numbers(values))
-        }
-        _ => {
-            drop(derivation);
-            None
-        }
-    }
+    proposal_of(derivation, alloc, found)
 }

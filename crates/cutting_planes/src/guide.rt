@@ -9,7 +9,7 @@ use items::Items;
 use lin_rows::Row;
 use proof_lines::RowStep;
 use simplex::number::at;
-use simplex::{Number, Pivoted, Tableau, Vertex, slack_of, solve, start, vertex_of};
+use simplex::{Equation, Number, Pivoted, Tableau, Vertex, slack_of, solve, start, vertex_of};
 use std::alloc::Global;
 
 /// The most turns of the guide, in each of which rows join, names get bounds, or cuts are made.
@@ -38,6 +38,15 @@ pub enum Proposal {
     },
 }
 
+/// What was found of the rows of a derivation.
+#[derive(Drop)]
+pub enum Found {
+    /// Numbers for the names.
+    Numbers(Vec<i128>),
+    /// The last row of the line is a contradiction.
+    Refuted,
+}
+
 /// What stands while the guide works.
 #[derive(Drop)]
 struct Guide<'r, N> {
@@ -52,8 +61,7 @@ struct Guide<'r, N> {
 #[derive(Drop)]
 enum Turn {
     Again,
-    Numbers(Vec<i128>),
-    Refuted,
+    Found(Found),
     /// A limit is met, or no cut is left to make.
     GivenUp,
 }
@@ -76,6 +84,37 @@ pub fn take_all(derivation: &mut Derivation<'_>, alloc: Global, rows: &[Row]) ->
     Some(false)
 }
 
+// Lists a multiple of the row of a variable.
+fn list_multiple<N: Number>(
+    tableau: &Tableau<N>,
+    variable: usize,
+    by: i128,
+    multiples: &mut Vec<Multiple>,
+) -> Option<()> {
+    let row = slack_of(tableau, variable)?.row?;
+    multiples.push(Multiple { row, by }).ok()
+}
+
+fn list_multiples<N: Number>(
+    tableau: &Tableau<N>,
+    equation: &Equation<N>,
+    multiples: &mut Vec<Multiple>,
+) -> Option<()> {
+    list_multiple(
+        tableau,
+        equation.basic,
+        equation.denominator.wide(),
+        multiples,
+    )?;
+    for (column, variable) in tableau.columns.iter().enumerate() {
+        let by = at(equation.numerators.as_slice(), column);
+        if !by.is_zero() {
+            list_multiple(tableau, *variable, by.wide().checked_neg()?, multiples)?;
+        }
+    }
+    Some(())
+}
+
 // The multiples by which an infeasible equation refutes the rows; nothing where a bound of our own is among them.
 fn multiples_of<N: Number>(
     tableau: &Tableau<N>,
@@ -83,19 +122,14 @@ fn multiples_of<N: Number>(
     number: usize,
 ) -> Option<Vec<Multiple>> {
     let equation = tableau.equations.get(number)?;
-    let row = slack_of(tableau, equation.basic)?.row?;
-    let by = equation.denominator.wide();
     let mut multiples = Vec::new(alloc);
-    multiples.push(Multiple { row, by }).ok()?;
-    for (column, variable) in tableau.columns.iter().enumerate() {
-        let by = at(equation.numerators.as_slice(), column);
-        if !by.is_zero() {
-            let row = slack_of(tableau, *variable)?.row?;
-            let by = by.wide().checked_neg()?;
-            multiples.push(Multiple { row, by }).ok()?;
+    match list_multiples(tableau, equation, &mut multiples) {
+        Some(()) => Some(multiples),
+        None => {
+            drop(multiples);
+            None
         }
     }
-    Some(multiples)
 }
 
 // Adds the multiples up.
@@ -104,7 +138,7 @@ fn refute<N: Number>(guide: &mut Guide<'_, N>, alloc: Global, number: usize) -> 
     let sum = combine(&mut guide.derivation, alloc, multiples.as_slice());
     drop(multiples);
     if is_contradiction(&guide.derivation, sum?) {
-        return Some(Turn::Refuted);
+        return Some(Turn::Found(Found::Refuted));
     }
     None
 }
@@ -179,7 +213,7 @@ fn settle<N: Number>(guide: &mut Guide<'_, N>, alloc: Global, vertex: &Vertex<N>
         0
     };
     if let Some(values) = try_all(&guide.derivation, alloc, vertex, moves) {
-        return Some(Turn::Numbers(values));
+        return Some(Turn::Found(Found::Numbers(values)));
     }
     if guide.cuts >= CUT_LIMIT {
         return Some(Turn::GivenUp);
@@ -188,7 +222,7 @@ fn settle<N: Number>(guide: &mut Guide<'_, N>, alloc: Global, vertex: &Vertex<N>
     match add_cuts(&mut guide.tableau, alloc, &mut guide.derivation)? {
         Cutting::Made(0) => Some(Turn::GivenUp),
         Cutting::Made(_) => Some(Turn::Again),
-        Cutting::Contradiction(_) => Some(Turn::Refuted),
+        Cutting::Contradiction(_) => Some(Turn::Found(Found::Refuted)),
     }
 }
 
@@ -243,8 +277,8 @@ fn numbers_taken(derivation: &Derivation<'_>, alloc: Global) -> Option<Items<u32
     Some(Items::from_vec(used))
 }
 
-/// The line of a derivation.
-pub fn refutation(derivation: Derivation<'_>, alloc: Global) -> Option<Proposal> {
+// The line of a derivation.
+fn refutation(derivation: Derivation<'_>, alloc: Global) -> Option<Proposal> {
     let used = numbers_taken(&derivation, alloc);
     let Derivation {
         rows,
@@ -262,6 +296,30 @@ pub fn refutation(derivation: Derivation<'_>, alloc: Global) -> Option<Proposal>
     }
 }
 
+/// What is proposed by what was found.
+pub fn proposal_of(
+    derivation: Derivation<'_>,
+    alloc: Global,
+    found: Option<Found>,
+) -> Option<Proposal> {
+    match found {
+        Some(Found::Refuted) => refutation(derivation, alloc),
+        Some(Found::Numbers(values)) => {
+            drop(derivation);
+            Some(Proposal::Numbers(values))
+        }
+        None => {
+            drop(derivation);
+            None
+        }
+    }
+}
+
+fn proposed_by(derivation: Derivation<'_>, alloc: Global, found: Found) -> Option<Ended> {
+    let proposal = proposal_of(derivation, alloc, Some(found))?;
+    Some(Ended::Proposed(proposal))
+}
+
 // What a guide ends with.
 fn conclude<N: Number>(guide: Guide<'_, N>, alloc: Global, turn: Option<Turn>) -> Option<Ended> {
     let Guide {
@@ -273,13 +331,16 @@ fn conclude<N: Number>(guide: Guide<'_, N>, alloc: Global, turn: Option<Turn>) -
     } = guide;
     drop(tableau);
     drop(joined);
-    if let Some(Turn::Refuted) = turn {
-        return Some(Ended::Proposed(refutation(derivation, alloc)?));
-    }
-    drop(derivation);
-    match turn? {
-        Turn::Numbers(values) => Some(Ended::Proposed(Proposal::Numbers(values))),
-        _ => Some(Ended::GivenUp),
+    match turn {
+        Some(Turn::Found(found)) => proposed_by(derivation, alloc, found),
+        Some(_) => {
+            drop(derivation);
+            Some(Ended::GivenUp)
+        }
+        None => {
+            drop(derivation);
+            None
+        }
     }
 }
 
@@ -307,38 +368,44 @@ fn guide_of<N: Number>(
     })
 }
 
+// What is proposed of given rows that are no contradiction.
+fn propose_by<N: Number>(derivation: Derivation<'_>, alloc: Global, ints: u32) -> Option<Ended> {
+    let mut guide = guide_of::<N>(derivation, alloc, ints)?;
+    let turn = turn_on(&mut guide, alloc);
+    conclude(guide, alloc, turn)
+}
+
 /// What is proposed, by a tableau whose numbers have one width; nothing where a number has no room, or for want of memory.
 pub fn propose_in<N: Number>(alloc: Global, rows: &[Row], ints: u32) -> Option<Ended> {
     let mut derivation = no_rows(alloc, rows)?;
     match take_all(&mut derivation, alloc, rows) {
-        Some(false) => {}
-        Some(true) => return Some(Ended::Proposed(refutation(derivation, alloc)?)),
+        Some(false) => propose_by::<N>(derivation, alloc, ints),
+        Some(true) => proposed_by(derivation, alloc, Found::Refuted),
         None => {
             drop(derivation);
-            return None;
+            None
         }
     }
-    let mut guide = guide_of::<N>(derivation, alloc, ints)?;
-    let turn = turn_on(&mut guide, alloc);
-    conclude(guide, alloc, turn)
+}
+
+// The same without the equations, then by a tableau of 128 bits.
+fn propose_wide(alloc: Global, rows: &[Row], ints: u32) -> Option<Proposal> {
+    if let Some(proposal) = propose_reformed(alloc, rows, ints) {
+        return Some(proposal);
+    }
+    match propose_in::<i128>(alloc, rows, ints)? {
+        Ended::Proposed(proposal) => Some(proposal),
+        Ended::GivenUp => None,
+    }
 }
 
 /// Numbers that may satisfy all rows, or a line that may refute them; nothing where a number has no room, where a limit is met, or for
 /// want of memory. A tableau of 64 bits is tried first, then the rows without their equations, then a tableau of 128 bits, where one of
 /// 64 had no room.
 pub fn propose(alloc: Global, rows: &[Row], ints: u32) -> Option<Proposal> {
-    let narrow = propose_in::<i64>(alloc, rows, ints);
-    if let Some(Ended::Proposed(proposal)) = narrow {
-        return Some(proposal);
-    }
-    if let Some(proposal) = propose_reformed(alloc, rows, ints) {
-        return Some(proposal);
-    }
-    if let Some(Ended::GivenUp) = narrow {
-        return None;
-    }
-    match propose_in::<i128>(alloc, rows, ints)? {
-        Ended::Proposed(proposal) => Some(proposal),
-        Ended::GivenUp => None,
+    match propose_in::<i64>(alloc, rows, ints) {
+        Some(Ended::Proposed(proposal)) => Some(proposal),
+        Some(Ended::GivenUp) => propose_reformed(alloc, rows, ints),
+        None => propose_wide(alloc, rows, ints),
     }
 }

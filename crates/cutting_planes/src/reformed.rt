@@ -15,7 +15,8 @@ use crate::combining::{
     Derivation, Multiple, combine, is_contradiction, no_rows, push_step, row_at,
 };
 use crate::faces::search_faces;
-use crate::guide::{Ended, Proposal, propose_in, refutation, take_all};
+use crate::guide::{Ended, Found, Proposal, proposal_of, propose_in, take_all};
+use crate::pairs::Pair;
 use crate::system::{System, lattice_of, middle_of, system_of, write_coefs};
 use lin_rows::number::is_in_range;
 use lin_rows::{Row, RowTerm, row_of};
@@ -75,6 +76,25 @@ fn take_out(reformed: &mut Reformed, left: &mut [bool]) -> Option<Equations> {
     }
 }
 
+// Adds a multiple of an equation: of its upper row, or of its lower one where it is below 0.
+fn push_multiple(pair: Pair, by: i128, list: &mut Vec<Multiple>) -> Option<()> {
+    if by == 0 {
+        return Some(());
+    }
+    let multiple = if by > 0 {
+        Multiple {
+            row: pair.upper,
+            by,
+        }
+    } else {
+        Multiple {
+            row: pair.lower,
+            by: by.checked_neg()?,
+        }
+    };
+    list.push(multiple).ok()
+}
+
 // Adds the multiples of the equations, as upper rows or as lower ones.
 fn push_multiples(
     system: &System,
@@ -85,22 +105,25 @@ fn push_multiples(
 ) -> Option<()> {
     for (i, by) in multiples.by.iter().enumerate() {
         let pair = system.pairs.get(lattice.numbers.get(i).copied()?).copied()?;
-        let by = by.checked_mul(sign)?;
-        if by > 0 {
-            list.push(Multiple {
-                row: pair.upper,
-                by,
-            })
-            .ok()?;
-        } else if by < 0 {
-            list.push(Multiple {
-                row: pair.lower,
-                by: by.checked_neg()?,
-            })
-            .ok()?;
-        }
+        push_multiple(pair, by.checked_mul(sign)?, list)?;
     }
     Some(())
+}
+
+// Lists the multiples of a row and of equations.
+fn list_multiples(
+    reformed: &Reformed,
+    row: u32,
+    multiples: &Multiples,
+    sign: i128,
+    list: &mut Vec<Multiple>,
+) -> Option<()> {
+    list.push(Multiple {
+        row,
+        by: multiples.common,
+    })
+    .ok()?;
+    push_multiples(&reformed.system, &reformed.lattice, multiples, sign, list)
 }
 
 // The number of the row that a row and multiples of equations add up to.
@@ -113,37 +136,27 @@ fn add_up(
     sign: i128,
 ) -> Option<u32> {
     let mut list = Vec::new(alloc);
-    list.push(Multiple {
-        row,
-        by: multiples.common,
-    })
-    .ok()?;
-    push_multiples(
-        &reformed.system,
-        &reformed.lattice,
-        multiples,
-        sign,
-        &mut list,
-    )?;
-    combine(derivation, alloc, list.as_slice())
+    let made = match list_multiples(reformed, row, multiples, sign, &mut list) {
+        Some(()) => combine(derivation, alloc, list.as_slice()),
+        None => None,
+    };
+    drop(list);
+    made
 }
 
-// Adds the steps by which an equation without whole numbers contradicts itself.
-fn refute_equation(
+// Adds the steps by which the two rows of an equation, each with multiples of others, contradict each other.
+fn refute_pair(
     reformed: &Reformed,
     derivation: &mut Derivation<'_>,
     alloc: Global,
-    number: usize,
+    pair: Pair,
+    multiples: &Multiples,
 ) -> Option<()> {
-    let system = &reformed.system;
-    let coefs = system.equations.get(number);
-    let pair = system.pairs.get(number).copied()?;
-    let multiples = multiples_for(alloc, &reformed.lattice, &system.equations, coefs)?;
-    let upper = add_up(reformed, derivation, alloc, pair.upper, &multiples, 1)?;
+    let upper = add_up(reformed, derivation, alloc, pair.upper, multiples, 1)?;
     if is_contradiction(derivation, upper) {
         return Some(());
     }
-    let lower = add_up(reformed, derivation, alloc, pair.lower, &multiples, -1)?;
+    let lower = add_up(reformed, derivation, alloc, pair.lower, multiples, -1)?;
     if is_contradiction(derivation, lower) {
         return Some(());
     }
@@ -160,14 +173,41 @@ fn refute_equation(
     Some(())
 }
 
+// Adds the steps by which an equation without whole numbers contradicts itself.
+fn refute_equation(
+    reformed: &Reformed,
+    derivation: &mut Derivation<'_>,
+    alloc: Global,
+    number: usize,
+) -> Option<()> {
+    let system = &reformed.system;
+    let coefs = system.equations.get(number);
+    let pair = system.pairs.get(number).copied()?;
+    let multiples = multiples_for(alloc, &reformed.lattice, &system.equations, coefs)?;
+    let refuted = refute_pair(reformed, derivation, alloc, pair, &multiples);
+    drop(multiples);
+    refuted
+}
+
+// The term of a row over the multiples of a vector, added to what is there unless it is 0.
+fn push_term(
+    lattice: &Lattice,
+    coefs: &[i128],
+    number: usize,
+    terms: &mut Vec<RowTerm>,
+) -> Option<()> {
+    let coef = dot(coefs, lattice.vectors.get(number))?;
+    if coef == 0 {
+        return Some(());
+    }
+    let place = u32::try_from(number).ok()?;
+    terms.push(RowTerm { place, coef }).ok()
+}
+
 // The terms of a row over the multiples of the vectors, added to what is there.
 fn push_terms(lattice: &Lattice, coefs: &[i128], terms: &mut Vec<RowTerm>) -> Option<()> {
     for number in 0..lattice.free() {
-        let coef = dot(coefs, lattice.vectors.get(number))?;
-        if coef != 0 {
-            let place = u32::try_from(number).ok()?;
-            terms.push(RowTerm { place, coef }).ok()?;
-        }
+        push_term(lattice, coefs, number, terms)?;
     }
     Some(())
 }
@@ -196,12 +236,30 @@ fn reformed_row(
     let row = row_at(derivation, number)?;
     write_coefs(&reformed.system, row.terms(), reformed.coefs.as_mut_slice())?;
     let coefs = reformed.coefs.as_slice();
-    let mut terms = Vec::new(alloc);
-    push_terms(&reformed.lattice, coefs, &mut terms)?;
     let bound = row
         .bound()
         .checked_sub(dot(coefs, reformed.lattice.point())?)?;
-    row_with(alloc, terms.as_slice(), bound)
+    let mut terms = Vec::new(alloc);
+    let made = match push_terms(&reformed.lattice, coefs, &mut terms) {
+        Some(()) => row_with(alloc, terms.as_slice(), bound),
+        None => None,
+    };
+    drop(terms);
+    made
+}
+
+fn push_reformed(
+    reformed: &mut Reformed,
+    derivation: &Derivation<'_>,
+    alloc: Global,
+    rows: &mut Vec<Row>,
+) -> Option<()> {
+    for i in 0..reformed.system.others.len() {
+        let number = reformed.system.others.get(i).copied()?;
+        let row = reformed_row(reformed, derivation, alloc, number)?;
+        rows.push(row).ok()?;
+    }
+    Some(())
 }
 
 fn reformed_rows(
@@ -210,12 +268,31 @@ fn reformed_rows(
     alloc: Global,
 ) -> Option<Vec<Row>> {
     let mut rows = Vec::new(alloc);
-    for i in 0..reformed.system.others.len() {
-        let number = reformed.system.others.get(i).copied()?;
-        let row = reformed_row(reformed, derivation, alloc, number)?;
-        rows.push(row).ok()?;
+    match push_reformed(reformed, derivation, alloc, &mut rows) {
+        Some(()) => Some(rows),
+        None => {
+            drop(rows);
+            None
+        }
     }
-    Some(rows)
+}
+
+// The number of a name, from multiples of the vectors.
+fn number_of(lattice: &Lattice, multiples: &[i128], name: usize) -> Option<i128> {
+    let mut sum = at(lattice.point(), name);
+    for (number, by) in multiples.iter().enumerate() {
+        let more = at(lattice.vectors.get(number), name).checked_mul(*by)?;
+        sum = sum.checked_add(more)?;
+    }
+    Some(sum)
+}
+
+fn write_numbers(reformed: &Reformed, multiples: &[i128], values: &mut [i128]) -> Option<()> {
+    for (name, place) in reformed.system.places.iter().enumerate() {
+        let number = number_of(&reformed.lattice, multiples, name)?;
+        put(values, *place as usize, number);
+    }
+    Some(())
 }
 
 // The numbers for the names, from multiples of the vectors.
@@ -226,40 +303,72 @@ fn numbers_of(
     ints: usize,
 ) -> Option<Vec<i128>> {
     let mut values = vec![in alloc; 0i128; ints].ok()?;
-    for (name, place) in reformed.system.places.iter().enumerate() {
-        let mut sum = at(reformed.lattice.point(), name);
-        for (number, by) in multiples.iter().enumerate() {
-            let more = at(reformed.lattice.vectors.get(number), name).checked_mul(*by)?;
-            sum = sum.checked_add(more)?;
+    match write_numbers(reformed, multiples, values.as_mut_slice()) {
+        Some(()) => Some(values),
+        None => {
+            drop(values);
+            None
         }
-        put(values.as_mut_slice(), *place as usize, sum);
     }
-    Some(values)
 }
 
-// Makes the rows on which a refutation rests; their numbers.
+// Makes a row on which a refutation rests; its number.
+fn make_one(
+    reformed: &mut Reformed,
+    derivation: &mut Derivation<'_>,
+    alloc: Global,
+    used: u32,
+) -> Option<u32> {
+    let number = reformed.system.others.get(used as usize).copied()?;
+    let row = row_at(derivation, number)?;
+    write_coefs(&reformed.system, row.terms(), reformed.coefs.as_mut_slice())?;
+    let multiples = multiples_for(
+        alloc,
+        &reformed.lattice,
+        &reformed.system.equations,
+        reformed.coefs.as_slice(),
+    )?;
+    let made = add_up(reformed, derivation, alloc, number, &multiples, 1);
+    drop(multiples);
+    made
+}
+
+// Makes the rows on which a refutation rests, and lists their numbers.
 fn make_used(
     reformed: &mut Reformed,
     derivation: &mut Derivation<'_>,
     alloc: Global,
     used: &[u32],
-) -> Option<Vec<u32>> {
-    let mut numbers = Vec::new(alloc);
+    numbers: &mut Vec<u32>,
+) -> Option<()> {
     for used in used {
-        let number = reformed.system.others.get(*used as usize).copied()?;
-        let row = row_at(derivation, number)?;
-        write_coefs(&reformed.system, row.terms(), reformed.coefs.as_mut_slice())?;
-        let multiples = multiples_for(
-            alloc,
-            &reformed.lattice,
-            &reformed.system.equations,
-            reformed.coefs.as_slice(),
-        )?;
-        let made = add_up(reformed, derivation, alloc, number, &multiples, 1)?;
-        drop(multiples);
+        let made = make_one(reformed, derivation, alloc, *used)?;
         numbers.push(made).ok()?;
     }
-    Some(numbers)
+    Some(())
+}
+
+// Repeats a step of a refutation over the rows that were made; the number of its row.
+fn repeat_step(
+    derivation: &mut Derivation<'_>,
+    alloc: Global,
+    numbers: &[u32],
+    step: &RowStep,
+) -> Option<u32> {
+    let left = numbers.get(step.left as usize).copied()?;
+    let right = numbers.get(step.right as usize).copied()?;
+    let made = u32::try_from(derivation.rows.len()).ok()?;
+    push_step(
+        derivation,
+        alloc,
+        RowStep {
+            left,
+            first: step.first,
+            right,
+            second: step.second,
+        },
+    )?;
+    Some(made)
 }
 
 // Repeats the steps of a refutation over the rows that were made.
@@ -270,19 +379,7 @@ fn repeat_steps(
     steps: &[RowStep],
 ) -> Option<()> {
     for step in steps {
-        let left = numbers.get(step.left as usize).copied()?;
-        let right = numbers.get(step.right as usize).copied()?;
-        let made = u32::try_from(derivation.rows.len()).ok()?;
-        push_step(
-            derivation,
-            alloc,
-            RowStep {
-                left,
-                first: step.first,
-                right,
-                second: step.second,
-            },
-        )?;
+        let made = repeat_step(derivation, alloc, numbers.as_slice(), step)?;
         numbers.push(made).ok()?;
     }
     Some(())
@@ -295,65 +392,92 @@ fn put_back(
     used: &[u32],
     steps: &[RowStep],
 ) -> Option<()> {
-    let mut numbers = make_used(reformed, derivation, alloc, used)?;
-    repeat_steps(derivation, alloc, &mut numbers, steps)
+    let mut numbers = Vec::new(alloc);
+    let done = match make_used(reformed, derivation, alloc, used, &mut numbers) {
+        Some(()) => repeat_steps(derivation, alloc, &mut numbers, steps),
+        None => None,
+    };
+    drop(numbers);
+    done
 }
 
-fn proposal_of(
-    mut reformed: Reformed,
-    mut derivation: Derivation<'_>,
+// What a proposal over short vectors says of the names and the given rows.
+fn found_by(
+    reformed: &mut Reformed,
+    derivation: &mut Derivation<'_>,
     alloc: Global,
     ints: usize,
     proposal: Proposal,
-) -> Option<Proposal> {
+) -> Option<Found> {
     match proposal {
-        Proposal::Numbers(multiples) => Some(Proposal::Numbers(numbers_of(
-            &reformed,
-            alloc,
-            multiples.as_slice(),
-            ints,
-        )?)),
+        Proposal::Numbers(multiples) => {
+            let values = numbers_of(reformed, alloc, multiples.as_slice(), ints);
+            drop(multiples);
+            Some(Found::Numbers(values?))
+        }
         Proposal::Refutation { used, steps } => {
-            put_back(
-                &mut reformed,
-                &mut derivation,
+            let done = put_back(
+                reformed,
+                derivation,
                 alloc,
                 used.as_slice(),
                 steps.as_slice(),
-            )?;
-            refutation(derivation, alloc)
+            );
+            drop(used);
+            drop(steps);
+            done?;
+            Some(Found::Refuted)
         }
     }
 }
 
 // What is proposed of rows over short vectors: by cuts in a tableau of 64 bits, else by the search through faces.
-fn propose_short(alloc: Global, rows: &[Row], ints: u32) -> Option<Proposal> {
+fn propose_short(alloc: Global, rows: &[Row], free: usize) -> Option<Proposal> {
+    let ints = u32::try_from(free).ok()?;
     match propose_in::<i64>(alloc, rows, ints) {
         Some(Ended::Proposed(proposal)) => Some(proposal),
         _ => search_faces(alloc, rows, ints),
     }
 }
 
+// Moves the point to the middle of the slabs.
+fn approach_middle(
+    reformed: &mut Reformed,
+    derivation: &Derivation<'_>,
+    alloc: Global,
+) -> Option<()> {
+    let middle = middle_of(&reformed.system, derivation, alloc)?;
+    let done = reformed.lattice.approach(middle.as_slice());
+    drop(middle);
+    done
+}
+
 // Moves the point to the middle and asks the guide about what is left.
 fn settle(
-    mut reformed: Reformed,
-    derivation: Derivation<'_>,
+    reformed: &mut Reformed,
+    derivation: &mut Derivation<'_>,
     alloc: Global,
     ints: usize,
-) -> Option<Proposal> {
+) -> Option<Found> {
     reformed.lattice.reduce()?;
-    let middle = middle_of(&reformed.system, &derivation, alloc)?;
-    reformed.lattice.approach(middle.as_slice())?;
-    let rows = reformed_rows(&mut reformed, &derivation, alloc)?;
-    let free = u32::try_from(reformed.lattice.free()).ok()?;
-    let proposal = propose_short(alloc, rows.as_slice(), free)?;
-    proposal_of(reformed, derivation, alloc, ints, proposal)
+    approach_middle(reformed, derivation, alloc)?;
+    let rows = reformed_rows(reformed, derivation, alloc)?;
+    let proposal = propose_short(alloc, rows.as_slice(), reformed.lattice.free());
+    drop(rows);
+    found_by(reformed, derivation, alloc, ints, proposal?)
 }
 
 fn reform(derivation: &Derivation<'_>, alloc: Global, ints: usize) -> Option<Reformed> {
     let system = system_of(derivation, alloc, ints)?;
-    let lattice = lattice_of(&system, derivation, alloc)?;
-    let coefs = vec![in alloc; 0i128; system.places.len()].ok()?;
+    let Some(lattice) = lattice_of(&system, derivation, alloc) else {
+        drop(system);
+        return None;
+    };
+    let Ok(coefs) = vec![in alloc; 0i128; system.places.len()] else {
+        drop(system);
+        drop(lattice);
+        return None;
+    };
     Some(Reformed {
         system,
         lattice,
@@ -361,17 +485,41 @@ fn reform(derivation: &Derivation<'_>, alloc: Global, ints: usize) -> Option<Ref
     })
 }
 
+// Takes the equations out, and asks about what is left.
+fn answer(
+    reformed: &mut Reformed,
+    derivation: &mut Derivation<'_>,
+    alloc: Global,
+    ints: usize,
+) -> Option<Found> {
+    let mut left = vec![in alloc; true; reformed.system.pairs.len()].ok()?;
+    let equations = take_out(reformed, left.as_mut_slice());
+    drop(left);
+    match equations? {
+        Equations::Out => settle(reformed, derivation, alloc, ints),
+        Equations::Impossible(number) => {
+            refute_equation(reformed, derivation, alloc, number)?;
+            Some(Found::Refuted)
+        }
+    }
+}
+
+fn find_reformed(
+    derivation: &mut Derivation<'_>,
+    alloc: Global,
+    rows: &[Row],
+    ints: usize,
+) -> Option<Found> {
+    take_all(derivation, alloc, rows)?;
+    let mut reformed = reform(derivation, alloc, ints)?;
+    let found = answer(&mut reformed, derivation, alloc, ints);
+    drop(reformed);
+    found
+}
+
 /// What the guide proposes of the rows without their equations, in terms of the rows.
 pub fn propose_reformed(alloc: Global, rows: &[Row], ints: u32) -> Option<Proposal> {
     let mut derivation = no_rows(alloc, rows)?;
-    take_all(&mut derivation, alloc, rows)?;
-    let mut reformed = reform(&derivation, alloc, ints as usize)?;
-    let mut left = vec![in alloc; true; reformed.system.pairs.len()].ok()?;
-    match take_out(&mut reformed, left.as_mut_slice())? {
-        Equations::Out => settle(reformed, derivation, alloc, ints as usize),
-        Equations::Impossible(number) => {
-            refute_equation(&reformed, &mut derivation, alloc, number)?;
-            refutation(derivation, alloc)
-        }
-    }
+    let found = find_reformed(&mut derivation, alloc, rows, ints as usize);
+    proposal_of(derivation, alloc, found)
 }

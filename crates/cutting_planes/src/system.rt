@@ -128,12 +128,25 @@ fn sort_all(
     Some(())
 }
 
+fn sort_by(
+    system: &mut System,
+    derivation: &Derivation<'_>,
+    alloc: Global,
+    keys: &[u64],
+) -> Option<()> {
+    let mut coefs = vec![in alloc; 0i128; system.places.len()].ok()?;
+    let sorted = sort_all(system, derivation, keys, coefs.as_mut_slice());
+    drop(coefs);
+    sorted
+}
+
 fn fill(system: &mut System, derivation: &Derivation<'_>, alloc: Global) -> Option<()> {
     name_all(system, derivation)?;
     system.equations.width = system.places.len();
-    let mut coefs = vec![in alloc; 0i128; system.places.len()].ok()?;
     let keys = keys_of(derivation, alloc)?;
-    sort_all(system, derivation, keys.as_slice(), coefs.as_mut_slice())
+    let sorted = sort_by(system, derivation, alloc, keys.as_slice());
+    drop(keys);
+    sorted
 }
 
 /// The system of the given rows, where it has equations or slabs and isn't too large.
@@ -181,16 +194,25 @@ fn write_slabs(
     Some(())
 }
 
+fn push_vectors(system: &System, derivation: &Derivation<'_>, vectors: &mut Vectors) -> Option<()> {
+    for name in 0..system.places.len() {
+        vectors.push_unit(name)?;
+        write_slabs(system, derivation, vectors, name)?;
+    }
+    vectors.push_unit(vectors.width)
+}
+
 // A vector for each name, and 0 as the point.
 fn vectors_of(system: &System, derivation: &Derivation<'_>, alloc: Global) -> Option<Vectors> {
     let width = system.places.len().saturating_add(system.slabs.len());
     let mut vectors = Vectors::new(alloc, width);
-    for name in 0..system.places.len() {
-        vectors.push_unit(name)?;
-        write_slabs(system, derivation, &mut vectors, name)?;
+    match push_vectors(system, derivation, &mut vectors) {
+        Some(()) => Some(vectors),
+        None => {
+            drop(vectors);
+            None
+        }
     }
-    vectors.push_unit(width)?;
-    Some(vectors)
 }
 
 /// The lattice of all points.
@@ -199,16 +221,31 @@ pub fn lattice_of(system: &System, derivation: &Derivation<'_>, alloc: Global) -
     Lattice::new(alloc, vectors, WORK_LIMIT)
 }
 
+// The middle of a slab, as much as it counts.
+fn middle_at(derivation: &Derivation<'_>, slab: &Pair) -> Option<i128> {
+    let high = row_at(derivation, slab.upper)?.bound();
+    let low = row_at(derivation, slab.lower)?.bound().checked_neg()?;
+    let sum = high.checked_add(low)?.checked_mul(weight_of(slab))?;
+    sum.checked_div(2)
+}
+
+fn write_middle(system: &System, derivation: &Derivation<'_>, middle: &mut [i128]) -> Option<()> {
+    for (i, slab) in system.slabs.iter().enumerate() {
+        let place = system.places.len().saturating_add(i);
+        put(middle, place, middle_at(derivation, slab)?);
+    }
+    Some(())
+}
+
 /// A point in the middle of the slabs, as near to 0 as they let it.
 pub fn middle_of(system: &System, derivation: &Derivation<'_>, alloc: Global) -> Option<Vec<i128>> {
     let width = system.places.len().saturating_add(system.slabs.len());
     let mut middle = vec![in alloc; 0i128; width].ok()?;
-    for (i, slab) in system.slabs.iter().enumerate() {
-        let high = row_at(derivation, slab.upper)?.bound();
-        let low = row_at(derivation, slab.lower)?.bound().checked_neg()?;
-        let sum = high.checked_add(low)?.checked_mul(weight_of(slab))?;
-        let place = system.places.len().saturating_add(i);
-        put(middle.as_mut_slice(), place, sum.checked_div(2)?);
+    match write_middle(system, derivation, middle.as_mut_slice()) {
+        Some(()) => Some(middle),
+        None => {
+            drop(middle);
+            None
+        }
     }
-    Some(middle)
 }
