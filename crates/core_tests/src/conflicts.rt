@@ -1,7 +1,7 @@
 // Worked examples of calls that conflict.
 
 use crate::examples::{shop, tournaments};
-use crate::setting::{Setting, call, first_setting};
+use crate::setting::{Setting, call, first_setting, read, spec_of};
 use std::alloc::Global;
 use std::process::Abort;
 use token_rules::conflicts;
@@ -23,8 +23,8 @@ fn conflict(
     let first = call(rt, alloc, one.0, one.1);
     let second = call(rt, alloc, other.0, other.1);
     let found = (
-        conflicts(&at.spec, &at.world, &first, &second),
-        conflicts(&at.spec, &at.world, &second, &first),
+        conflicts(at.spec, &at.world, &first, &second),
+        conflicts(at.spec, &at.world, &second, &first),
     );
     drop(first);
     drop(second);
@@ -43,9 +43,11 @@ fn check_all(rt: &impl Abort, alloc: Global, at: &Setting, cases: &[Case]) {
 }
 
 fn check(rt: &impl Abort, alloc: Global, text: &[u8], sizes: &[u32], cases: &[Case]) {
-    let at = first_setting(rt, alloc, text, sizes);
+    let reading = read(rt, alloc, text);
+    let at = first_setting(rt, alloc, spec_of(rt, &reading), sizes);
     check_all(rt, alloc, &at, cases);
     drop(at);
+    reading.let_go();
 }
 
 static IN_THE_SHOP: &[Case] = &[

@@ -1,7 +1,7 @@
 // Worked examples of what calls change.
 
 use crate::examples::{deposits, lamps, set, swap};
-use crate::setting::{Setting, call, first_setting};
+use crate::setting::{Setting, call, first_setting, read, spec_of};
 use effectors::{ApplyRefused, apply, post_count, post_has, post2_count, post2_has};
 use spec_states::State;
 use std::alloc::Global;
@@ -31,8 +31,8 @@ fn range_of(made: &Result<State, ApplyRefused>) -> Option<[i128; 3]> {
 /// The same of a call that fits, as it is refused.
 fn refused(rt: &impl Abort, alloc: Global, at: &Setting, it: CallOutline) -> Option<[i128; 3]> {
     let call = call(rt, alloc, it.0, it.1);
-    assert!(rt; call.fits(&at.spec, &at.world));
-    let made = apply(alloc, &at.spec, &at.world, &at.state, &call);
+    assert!(rt; call.fits(at.spec, &at.world));
+    let made = apply(alloc, at.spec, &at.world, &at.state, &call);
     let found = range_of(&made);
     drop(made);
     drop(call);
@@ -49,8 +49,8 @@ fn count(
     key: &[u32],
 ) -> i128 {
     let call = call(rt, alloc, it.0, it.1);
-    assert!(rt; call.fits(&at.spec, &at.world));
-    let found = post_count(&at.spec, &at.world, &at.state, &call, counter, key);
+    assert!(rt; call.fits(at.spec, &at.world));
+    let found = post_count(at.spec, &at.world, &at.state, &call, counter, key);
     drop(call);
     found
 }
@@ -65,8 +65,8 @@ fn count_after_both(
     key: &[u32],
 ) -> i128 {
     let call = call(rt, alloc, it.0, it.1);
-    assert!(rt; call.fits(&at.spec, &at.world));
-    let found = post2_count(&at.spec, &at.world, &at.state, &call, &call, counter, key);
+    assert!(rt; call.fits(at.spec, &at.world));
+    let found = post2_count(at.spec, &at.world, &at.state, &call, &call, counter, key);
     drop(call);
     found
 }
@@ -74,8 +74,8 @@ fn count_after_both(
 /// Whether the first relation has an element after a call that fits.
 fn has(rt: &impl Abort, alloc: Global, at: &Setting, it: CallOutline, element: u32) -> bool {
     let call = call(rt, alloc, it.0, it.1);
-    assert!(rt; call.fits(&at.spec, &at.world));
-    let found = post_has(&at.spec, &at.world, &at.state, &call, 0, &[element]);
+    assert!(rt; call.fits(at.spec, &at.world));
+    let found = post_has(at.spec, &at.world, &at.state, &call, 0, &[element]);
     drop(call);
     found
 }
@@ -91,9 +91,9 @@ fn has_after_both(
 ) -> bool {
     let first = call(rt, alloc, one.0, one.1);
     let second = call(rt, alloc, other.0, other.1);
-    assert!(rt; first.fits(&at.spec, &at.world) && second.fits(&at.spec, &at.world));
+    assert!(rt; first.fits(at.spec, &at.world) && second.fits(at.spec, &at.world));
     let found = post2_has(
-        &at.spec,
+        at.spec,
         &at.world,
         &at.state,
         &first,
@@ -118,9 +118,11 @@ fn swapped_in(rt: &impl Abort, alloc: Global, at: &mut Setting) -> [i128; 4] {
 
 /// The same of the first setting.
 fn swapped(rt: &impl Abort, alloc: Global) -> [i128; 4] {
-    let mut at = first_setting(rt, alloc, swap(), &[]);
+    let reading = read(rt, alloc, swap());
+    let mut at = first_setting(rt, alloc, spec_of(rt, &reading), &[]);
     let found = swapped_in(rt, alloc, &mut at);
     drop(at);
+    reading.let_go();
     found
 }
 
@@ -146,9 +148,11 @@ fn put_and_taken_in(rt: &impl Abort, alloc: Global, set: &Setting) -> [bool; 4] 
 
 /// The same of a set of two elements.
 fn put_and_taken(rt: &impl Abort, alloc: Global) -> [bool; 4] {
-    let set = first_setting(rt, alloc, set(), &[2]);
+    let reading = read(rt, alloc, set());
+    let set = first_setting(rt, alloc, spec_of(rt, &reading), &[2]);
     let found = put_and_taken_in(rt, alloc, &set);
     drop(set);
+    reading.let_go();
     found
 }
 
@@ -176,9 +180,11 @@ fn after_night_in(
 
 /// The same of two rooms.
 fn after_night(rt: &impl Abort, alloc: Global, night: CallOutline) -> (bool, [i128; 2]) {
-    let mut lamps = first_setting(rt, alloc, lamps(), &[2]);
+    let reading = read(rt, alloc, lamps());
+    let mut lamps = first_setting(rt, alloc, spec_of(rt, &reading), &[2]);
     let found = after_night_in(rt, alloc, &mut lamps, night);
     drop(lamps);
+    reading.let_go();
     found
 }
 
@@ -198,9 +204,11 @@ fn refused_beyond_in(rt: &impl Abort, alloc: Global, accounts: &mut Setting) -> 
 
 /// The same of one account.
 fn refused_beyond(rt: &impl Abort, alloc: Global) -> Option<[i128; 3]> {
-    let mut accounts = first_setting(rt, alloc, deposits(), &[1]);
+    let reading = read(rt, alloc, deposits());
+    let mut accounts = first_setting(rt, alloc, spec_of(rt, &reading), &[1]);
     let found = refused_beyond_in(rt, alloc, &mut accounts);
     drop(accounts);
+    reading.let_go();
     found
 }
 

@@ -1,7 +1,7 @@
 // Worked examples of lines that are true or false: quantifiers, constants, elements that are equal or not, and the connectives.
 
 use crate::examples::{people, rooms};
-use crate::setting::{Setting, call, first_setting, first_setting_with};
+use crate::setting::{Setting, call, first_setting, first_setting_with, read, spec_of};
 use spec_core::requires_broken_at;
 use std::alloc::Global;
 use std::process::Abort;
@@ -9,17 +9,19 @@ use std::process::Abort;
 /// Whether the precondition of a call that fits is true.
 fn is_ready(rt: &impl Abort, alloc: Global, at: &Setting, op: u8, args: &[i64]) -> bool {
     let call = call(rt, alloc, op, args);
-    assert!(rt; call.fits(&at.spec, &at.world));
-    let broken = requires_broken_at(&at.spec, &at.world, &at.state, &call);
+    assert!(rt; call.fits(at.spec, &at.world));
+    let broken = requires_broken_at(at.spec, &at.world, &at.state, &call);
     drop(call);
     broken.is_none()
 }
 
 /// Whether a room is free where there are so many.
 fn some_is_free(rt: &impl Abort, alloc: Global, count: u32) -> bool {
-    let at = first_setting(rt, alloc, rooms(), &[count]);
+    let reading = read(rt, alloc, rooms());
+    let at = first_setting(rt, alloc, spec_of(rt, &reading), &[count]);
     let ready = is_ready(rt, alloc, &at, 0, &[]);
     drop(at);
+    reading.let_go();
     ready
 }
 
@@ -74,10 +76,12 @@ fn check_all(rt: &impl Abort, alloc: Global, at: &Setting, cases: &[Case]) {
 }
 
 fn check_people(rt: &impl Abort, alloc: Global) {
-    let mut at = first_setting_with(rt, alloc, people(), &[3, 0], &[0, 1]);
+    let reading = read(rt, alloc, people());
+    let mut at = first_setting_with(rt, alloc, spec_of(rt, &reading), &[3, 0], &[0, 1]);
     at.set_has(rt, 0, &[1], true);
     check_all(rt, alloc, &at, about_people());
     drop(at);
+    reading.let_go();
 }
 
 #[test]

@@ -1,7 +1,7 @@
 // Worked examples of obligations, and of what breaks them.
 
 use crate::examples::{deposits, purses, set, shop, tournaments, withdrawals};
-use crate::setting::{Setting, call, first_setting, items, spec};
+use crate::setting::{Setting, call, first_setting, items, read, spec_of};
 use items::Items;
 use obligation_list::{Obligation, Witness, breaks, law_obligations, list};
 use spec_core::{Call, Spec, Thing};
@@ -10,9 +10,11 @@ use std::process::Abort;
 
 /// How many obligations a specification has.
 fn obligations(rt: &impl Abort, alloc: Global, text: &[u8]) -> usize {
-    let spec = spec(rt, alloc, text);
-    let found = list(alloc, &spec).expect(rt, "memory").len();
-    drop(spec);
+    let reading = read(rt, alloc, text);
+    let obligations = list(alloc, spec_of(rt, &reading)).expect(rt, "memory");
+    let found = obligations.len();
+    drop(obligations);
+    reading.let_go();
     found
 }
 
@@ -59,11 +61,11 @@ static OF_DEPOSITS: &[Obligation] = &[
 
 /// Whether a specification has these obligations.
 fn has_these(rt: &impl Abort, alloc: Global, text: &[u8], want: &[Obligation]) -> bool {
-    let spec = spec(rt, alloc, text);
-    let obligations = list(alloc, &spec).expect(rt, "memory");
+    let reading = read(rt, alloc, text);
+    let obligations = list(alloc, spec_of(rt, &reading)).expect(rt, "memory");
     let found = obligations.as_slice() == want;
     drop(obligations);
-    drop(spec);
+    reading.let_go();
     found
 }
 
@@ -119,15 +121,15 @@ fn two_break(
         calls,
         elements: items(rt, alloc, elements),
     };
-    let found = breaks_at(rt, alloc, &spec, place, obligation, &witness);
+    let found = breaks_at(rt, alloc, spec, place, obligation, &witness);
     drop(witness);
-    drop(spec);
     found
 }
 
 /// Whether two withdrawals of 1 from one account break that the second of them is still covered.
 fn two_withdrawals_break(rt: &impl Abort, alloc: Global, text: &[u8], balance: i64) -> bool {
-    let mut at = first_setting(rt, alloc, text, &[1]);
+    let reading = read(rt, alloc, text);
+    let mut at = first_setting(rt, alloc, spec_of(rt, &reading), &[1]);
     at.set_count(rt, 0, &[0], balance);
     let covered = Obligation::Stable {
         op: 1,
@@ -135,7 +137,9 @@ fn two_withdrawals_break(rt: &impl Abort, alloc: Global, text: &[u8], balance: i
         other: 1,
     };
     let calls = two(rt, alloc, 1, 1, &[0, 1]);
-    two_break(rt, alloc, at, 11, covered, calls, &[])
+    let found = two_break(rt, alloc, at, 11, covered, calls, &[]);
+    reading.let_go();
+    found
 }
 
 #[test]
@@ -152,14 +156,17 @@ fn withdrawals_that_conflict_break_nothing(rt: HostRuntime) {
 
 /// Whether putting and dropping an element break that they commute.
 fn put_and_drop_break(rt: &impl Abort, alloc: Global) -> bool {
-    let at = first_setting(rt, alloc, set(), &[1]);
+    let reading = read(rt, alloc, set());
+    let at = first_setting(rt, alloc, spec_of(rt, &reading), &[1]);
     let commute = Obligation::Commute {
         first: 0,
         second: 1,
         thing: Thing::Relation(0),
     };
     let calls = two(rt, alloc, 0, 1, &[0]);
-    two_break(rt, alloc, at, 1, commute, calls, &[0])
+    let found = two_break(rt, alloc, at, 1, commute, calls, &[0]);
+    reading.let_go();
+    found
 }
 
 #[test]

@@ -5,7 +5,7 @@ ghost use Rattle.std.specs.List.{list_all};
 ghost use Rattle.spec_core.specs.Fits.{call_fits};
 
 use crate::examples::deposits;
-use crate::setting::{Setting, call, first_setting, items};
+use crate::setting::{Setting, call, first_setting, items, read, spec_of};
 use effectors::ApplyRefused;
 use executions::{Event, is_order, law_closed_sets, may_follow, state_after};
 use items::Items;
@@ -105,8 +105,8 @@ fn balances(
     events: &[Event],
     order: &[u32],
 ) -> [i128; 2] {
-    assert!(rt; all_fit(&at.spec, &at.world, events) && all_within(order, events.len()));
-    let run = state_after(alloc, &at.spec, &at.world, events, order);
+    assert!(rt; all_fit(at.spec, &at.world, events) && all_within(order, events.len()));
+    let run = state_after(alloc, at.spec, &at.world, events, order);
     let found = balances_in(rt, &run);
     drop(run);
     found
@@ -135,11 +135,13 @@ fn check_balances(rt: &impl Abort, alloc: Global, at: &Setting, events: &[Event]
 }
 
 fn check_deposits(rt: &impl Abort, alloc: Global) {
-    let at = first_setting(rt, alloc, deposits(), &[2]);
+    let reading = read(rt, alloc, deposits());
+    let at = first_setting(rt, alloc, spec_of(rt, &reading), &[2]);
     let events = events(rt, alloc, THREE_DEPOSITS);
     check_balances(rt, alloc, &at, events.as_slice());
     drop(events);
     drop(at);
+    reading.let_go();
 }
 
 #[test]

@@ -13,12 +13,12 @@ use std::process::Abort;
 
 /// A specification, a world of it, and a state in that world.
 #[derive(Drop)]
-pub struct Setting {
-    pub spec: Spec,
+pub struct Setting<'a> {
+    pub spec: &'a Spec,
     pub world: World,
     pub state: State,
-    ghost world_fits: { world_fits spec world ≡ true },
-    ghost state_fits: { is_state spec world state ≡ true },
+    ghost world_fits: { world_fits spec.now world ≡ true },
+    ghost state_fits: { is_state spec.now world state ≡ true },
 }
 
 /// A list of these items.
@@ -26,36 +26,44 @@ pub fn items<T: Copy>(rt: &impl Abort, alloc: Global, list: &[T]) -> Items<T> {
     Items::from_slice(alloc, list).expect(rt, "memory")
 }
 
-/// The specification that a text is.
-pub fn spec(rt: &impl Abort, alloc: Global, text: &[u8]) -> Spec {
+/// What a text is read as. It stays whole, and is let go as a whole.
+pub fn read(rt: &impl Abort, alloc: Global, text: &[u8]) -> Reading {
     assert!(rt; text.len() <= SPECIFICATION_LIMIT);
-    let Ok(Reading::Specified(tree, spec)) = read_bytes(alloc, text) else {
-        panic!(rt; "no specification");
-    };
-    drop(tree);
-    spec
+    read_bytes(alloc, text).expect(rt, "memory")
 }
 
-/// The specification of a text without constants, a world with so many elements of each sort, and the initial state.
-pub fn first_setting(rt: &impl Abort, alloc: Global, text: &[u8], sizes: &[u32]) -> Setting {
-    first_setting_with(rt, alloc, text, sizes, &[])
+/// The specification that was read.
+pub fn spec_of<'a>(rt: &impl Abort, reading: &'a Reading) -> &'a Spec {
+    match reading {
+        Reading::Specified(_, spec) => spec,
+        Reading::Refused(_) => panic!(rt; "no specification"),
+    }
 }
 
-/// The same of a text with constants, which are these elements.
-pub fn first_setting_with(
+/// A specification without constants, a world with so many elements of each sort, and the initial state.
+pub fn first_setting<'a>(
     rt: &impl Abort,
     alloc: Global,
-    text: &[u8],
+    spec: &'a Spec,
+    sizes: &[u32],
+) -> Setting<'a> {
+    first_setting_with(rt, alloc, spec, sizes, &[])
+}
+
+/// The same of a specification with constants, which are these elements.
+pub fn first_setting_with<'a>(
+    rt: &impl Abort,
+    alloc: Global,
+    spec: &'a Spec,
     sizes: &[u32],
     consts: &[u32],
-) -> Setting {
-    let spec = spec(rt, alloc, text);
+) -> Setting<'a> {
     let world = World {
         sizes: items(rt, alloc, sizes),
         consts: items(rt, alloc, consts),
     };
-    assert!(rt; world.fits(&spec));
-    let state = State::initial(alloc, &spec, &world).expect(rt, "memory");
+    assert!(rt; world.fits(spec));
+    let state = State::initial(alloc, spec, &world).expect(rt, "memory");
     Setting { spec, world, state }
 }
 
@@ -124,24 +132,24 @@ fn empty(rt: &impl Abort, alloc: Global, spec: &Spec, world: &World, state: &mut
     *state = State::empty(alloc, spec, world).expect(rt, "memory");
 }
 
-impl Setting {
+impl<'a> Setting<'a> {
     /// Makes a call, which has to fit and not be refused.
     pub fn make(&mut self, rt: &impl Abort, alloc: Global, op: u8, args: &[i64]) {
         let call = call(rt, alloc, op, args);
-        make(rt, alloc, &self.spec, &self.world, &mut self.state, &call);
+        make(rt, alloc, self.spec, &self.world, &mut self.state, &call);
         drop(call);
     }
 
     /// Empties the state: nothing is listed.
     pub fn empty(&mut self, rt: &impl Abort, alloc: Global) {
-        empty(rt, alloc, &self.spec, &self.world, &mut self.state);
+        empty(rt, alloc, self.spec, &self.world, &mut self.state);
     }
 
     /// Sets the value of a counter at a key.
     pub fn set_count(&mut self, rt: &impl Abort, counter: u8, key: &[u32], value: i64) {
         set_count(
             rt,
-            &self.spec,
+            self.spec,
             &self.world,
             &mut self.state,
             counter,
@@ -154,7 +162,7 @@ impl Setting {
     pub fn set_has(&mut self, rt: &impl Abort, relation: u8, tuple: &[u32], value: bool) {
         set_has(
             rt,
-            &self.spec,
+            self.spec,
             &self.world,
             &mut self.state,
             relation,
@@ -175,6 +183,6 @@ impl Setting {
 
     /// The first invariant that is false.
     pub fn broken(&self) -> Option<usize> {
-        invariant_broken_at(&self.spec, &self.world, &self.state)
+        invariant_broken_at(self.spec, &self.world, &self.state)
     }
 }

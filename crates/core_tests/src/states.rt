@@ -1,7 +1,7 @@
 // Worked examples of states: what they read, how one reading changes, when two are the same, and the lines that show them.
 
 use crate::examples::{deposits, flag, set, tournaments};
-use crate::setting::{Setting, first_setting};
+use crate::setting::{Setting, first_setting, read, spec_of};
 use spec_states::write_state;
 use std::alloc::Global;
 use std::process::Abort;
@@ -18,9 +18,11 @@ fn flags_in(rt: &impl Abort, alloc: Global, at: &mut Setting) -> (Flag, Flag) {
 
 /// The same of the first setting.
 fn flags(rt: &impl Abort, alloc: Global) -> (Flag, Flag) {
-    let mut at = first_setting(rt, alloc, flag(), &[]);
+    let reading = read(rt, alloc, flag());
+    let mut at = first_setting(rt, alloc, spec_of(rt, &reading), &[]);
     let found = flags_in(rt, alloc, &mut at);
     drop(at);
+    reading.let_go();
     found
 }
 
@@ -39,9 +41,11 @@ fn balances_in(rt: &impl Abort, accounts: &mut Setting) -> [i128; 2] {
 
 /// The same of the first setting.
 fn balances(rt: &impl Abort, alloc: Global) -> [i128; 2] {
-    let mut accounts = first_setting(rt, alloc, deposits(), &[2]);
+    let reading = read(rt, alloc, deposits());
+    let mut accounts = first_setting(rt, alloc, spec_of(rt, &reading), &[2]);
     let found = balances_in(rt, &mut accounts);
     drop(accounts);
+    reading.let_go();
     found
 }
 
@@ -62,9 +66,11 @@ fn elements_in(rt: &impl Abort, at: &mut Setting) -> [bool; 3] {
 
 /// The same of the first setting.
 fn elements(rt: &impl Abort, alloc: Global) -> [bool; 3] {
-    let mut at = first_setting(rt, alloc, set(), &[2]);
+    let reading = read(rt, alloc, set());
+    let mut at = first_setting(rt, alloc, spec_of(rt, &reading), &[2]);
     let found = elements_in(rt, &mut at);
     drop(at);
+    reading.let_go();
     found
 }
 
@@ -87,9 +93,11 @@ fn copied_in(rt: &impl Abort, accounts: &mut Setting) -> [bool; 2] {
 
 /// The same of the first setting.
 fn copied(rt: &impl Abort, alloc: Global) -> [bool; 2] {
-    let mut accounts = first_setting(rt, alloc, deposits(), &[2]);
+    let reading = read(rt, alloc, deposits());
+    let mut accounts = first_setting(rt, alloc, spec_of(rt, &reading), &[2]);
     let found = copied_in(rt, &mut accounts);
     drop(accounts);
+    reading.let_go();
     found
 }
 
@@ -102,7 +110,7 @@ fn a_copy_is_the_same_until_the_original_changes(rt: HostRuntime) {
 /// Whether these lines show a state.
 fn is_shown(rt: &impl Abort, alloc: Global, at: &Setting, want: &str) -> bool {
     let mut out = Vec::new(alloc);
-    write_state(alloc, &at.spec, &at.state, &mut out).expect(rt, "memory");
+    write_state(alloc, at.spec, &at.state, &mut out).expect(rt, "memory");
     let found = out.as_slice() == want.as_bytes();
     drop(out);
     found
@@ -119,10 +127,12 @@ fn enroll(rt: &impl Abort, at: &mut Setting) {
 
 /// Whether these lines show a state of tournaments with those.
 fn players_are_shown(rt: &impl Abort, alloc: Global, want: &str) -> bool {
-    let mut at = first_setting(rt, alloc, tournaments(), &[2, 3]);
+    let reading = read(rt, alloc, tournaments());
+    let mut at = first_setting(rt, alloc, spec_of(rt, &reading), &[2, 3]);
     enroll(rt, &mut at);
     let shown = is_shown(rt, alloc, &at, want);
     drop(at);
+    reading.let_go();
     shown
 }
 

@@ -1,7 +1,7 @@
 // The two searches on the problems of specifications: each obligation has the same answer by both, Unsat or Sat.
 
 use crate::examples::{friends, withdrawals};
-use crate::setting::{grounded, obligation_at, pose, spec};
+use crate::setting::{count_of, grounded, obligation_at, pose, read, spec_of};
 use linear_ints::Eliminator;
 use obligation_list::{law_obligations, list};
 use proof_lines::Problem;
@@ -63,39 +63,33 @@ fn agreements(rt: &impl Abort, alloc: Global, spec: &Spec, obligations: usize) -
     obligations
 }
 
-fn count_of(rt: &impl Abort, alloc: Global, spec: &Spec) -> usize {
-    let obligations = list(alloc, spec).expect(rt, "memory");
-    let count = obligations.len();
-    drop(obligations);
-    count
+// Both searches say the same of each of more than three obligations.
+fn check(rt: &impl Abort, alloc: Global, spec: &Spec) {
+    let count = count_of(rt, alloc, spec);
+    assert!(rt; count > 3);
+    assert_eq!(rt; agreements(rt, alloc, spec, count), count);
+}
+
+// The same of the specification that a text is.
+fn check_text(rt: &impl Abort, alloc: Global, text: &[u8]) {
+    let reading = read(rt, alloc, text);
+    check(rt, alloc, spec_of(rt, &reading));
+    reading.let_go();
 }
 
 #[test]
 fn both_searches_agree_on_accounts(rt: HostRuntime) {
-    let alloc = rt.alloc();
-    let spec = spec(&rt, alloc, withdrawals());
-    let count = count_of(&rt, alloc, &spec);
-    assert!(rt; count > 3);
-    assert_eq!(rt; agreements(&rt, alloc, &spec, count), count);
-    drop(spec);
+    check_text(&rt, rt.alloc(), withdrawals());
 }
 
 #[test]
 fn both_searches_agree_on_a_transitive_relation(rt: HostRuntime) {
-    let alloc = rt.alloc();
-    let spec = spec(&rt, alloc, friends());
-    let count = count_of(&rt, alloc, &spec);
-    assert!(rt; count > 3);
-    assert_eq!(rt; agreements(&rt, alloc, &spec, count), count);
-    drop(spec);
+    check_text(&rt, rt.alloc(), friends());
 }
 
 #[test]
 fn both_searches_agree_on_the_generated_specification(rt: HostRuntime) {
-    let alloc = rt.alloc();
-    let spec = sample_spec(alloc, 4).expect(&rt, "memory");
-    let count = count_of(&rt, alloc, &spec);
-    assert!(rt; count > 3);
-    assert_eq!(rt; agreements(&rt, alloc, &spec, count), count);
+    let spec = sample_spec(rt.alloc(), 4).expect(&rt, "memory");
+    check(&rt, rt.alloc(), &spec);
     drop(spec);
 }

@@ -1,7 +1,7 @@
 // The clauses of a problem, where each "and" inside an "or" has a name.
 
 use crate::examples::flag;
-use crate::setting::{commute, problem_at, spec};
+use crate::setting::{commute, problem_at, read, spec_of};
 use proof_lines::{Clause, Lit};
 use std::alloc::{AllocError, Global};
 
@@ -30,9 +30,9 @@ fn rows_of(alloc: Global, clauses: &[Clause]) -> Result<Vec<Row>, AllocError> {
 #[test]
 fn the_flag_has_ten_clauses(rt: HostRuntime) {
     let alloc = rt.alloc();
-    let spec = spec(&rt, alloc, flag());
-    let problem = problem_at(&rt, alloc, &spec, 2, commute(0, 0));
-    drop(spec);
+    let reading = read(&rt, alloc, flag());
+    let problem = problem_at(&rt, alloc, spec_of(&rt, &reading), 2, commute(0, 0));
+    reading.let_go();
     let rows = rows_of(alloc, problem.clauses.as_slice()).expect(&rt, "memory");
     drop(problem);
     let expected = [

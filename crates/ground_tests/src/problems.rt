@@ -1,7 +1,7 @@
 // Ground problems of small specifications: their numbers and their lengths, worked out by hand.
 
 use crate::examples::{flag, wide};
-use crate::setting::{commute, ground_at, spec};
+use crate::setting::{commute, ground_at, read, spec_of};
 use ground_atoms::{Atom, Atoms};
 use obligation_list::Obligation;
 use std::alloc::Global;
@@ -15,11 +15,11 @@ fn length_at(
     place: usize,
     obligation: Obligation,
 ) -> Option<usize> {
-    let spec = spec(rt, alloc, text);
-    let grounded = ground_at(rt, alloc, &spec, place, obligation);
+    let reading = read(rt, alloc, text);
+    let grounded = ground_at(rt, alloc, spec_of(rt, &reading), place, obligation);
     let length = grounded.as_ref().map(|found| found.formulas.len());
     drop(grounded);
-    drop(spec);
+    reading.let_go();
     length
 }
 
@@ -63,12 +63,13 @@ fn stage_at(atoms: &Atoms, number: u32) -> Option<u8> {
 #[test]
 fn readings_of_a_flag_are_numbered_as_they_are_named(rt: HostRuntime) {
     let alloc = rt.alloc();
-    let spec = spec(&rt, alloc, flag());
-    let Some(grounded) = ground_at(&rt, alloc, &spec, 2, commute(0, 0)) else {
+    let reading = read(&rt, alloc, flag());
+    let spec = spec_of(&rt, &reading);
+    let Some(grounded) = ground_at(&rt, alloc, spec, 2, commute(0, 0)) else {
         panic!(&rt; "too many");
     };
     let stages = [0, 1, 2, 3, 4, 5].map(|number| stage_at(&grounded.atoms, number));
     assert!(&rt; stages == [Some(0), Some(2), Some(4), Some(1), Some(3), None]);
     drop(grounded);
-    drop(spec);
+    reading.let_go();
 }

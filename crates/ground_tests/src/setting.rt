@@ -22,14 +22,26 @@ pub fn items<T: Copy>(rt: &impl Abort, alloc: Global, list: &[T]) -> Items<T> {
     Items::from_slice(alloc, list).expect(rt, "memory")
 }
 
-/// The specification that a text is.
-pub fn spec(rt: &impl Abort, alloc: Global, text: &[u8]) -> Spec {
+/// What a text is read as. It stays whole, and is let go as a whole.
+pub fn read(rt: &impl Abort, alloc: Global, text: &[u8]) -> Reading {
     assert!(rt; text.len() <= SPECIFICATION_LIMIT);
-    let Ok(Reading::Specified(tree, spec)) = read_bytes(alloc, text) else {
-        panic!(rt; "no specification");
-    };
-    drop(tree);
-    spec
+    read_bytes(alloc, text).expect(rt, "memory")
+}
+
+/// The specification that was read.
+pub fn spec_of<'a>(rt: &impl Abort, reading: &'a Reading) -> &'a Spec {
+    match reading {
+        Reading::Specified(_, spec) => spec,
+        Reading::Refused(_) => panic!(rt; "no specification"),
+    }
+}
+
+/// How many obligations a specification has.
+pub fn count_of(rt: &impl Abort, alloc: Global, spec: &Spec) -> usize {
+    let obligations = list(alloc, spec).expect(rt, "memory");
+    let count = obligations.len();
+    drop(obligations);
+    count
 }
 
 /// The obligation that calls of two operations commute on the first relation.

@@ -19,7 +19,7 @@
 ghost use Rattle.obligation_list.specs.Obligations.{IsObligation};
 
 use crate::examples::{chain, deposits, far, purses, set, shop, tournaments, withdrawals};
-use crate::setting::{grounded, obligation_at, pose, spec};
+use crate::setting::{count_of, grounded, obligation_at, pose, read, spec_of};
 use obligation_list::{Obligation, list};
 use spec_core::Spec;
 use std::alloc::Global;
@@ -54,19 +54,16 @@ fn sizes_at(rt: &impl Abort, alloc: Global, spec: &Spec, place: usize) -> Sizes 
     sizes
 }
 
-fn count_of(rt: &impl Abort, alloc: Global, spec: &Spec) -> usize {
-    list(alloc, spec).expect(rt, "memory").len()
-}
-
 /// The obligations of a specification have problems of these sizes.
 fn check(rt: &impl Abort, alloc: Global, text: &[u8], want: &[Sizes]) {
-    let spec = spec(rt, alloc, text);
-    assert!(rt; count_of(rt, alloc, &spec) == want.len());
+    let reading = read(rt, alloc, text);
+    let spec = spec_of(rt, &reading);
+    assert!(rt; count_of(rt, alloc, spec) == want.len());
     for place in 0..want.len() {
-        let found = sizes_at(rt, alloc, &spec, place);
+        let found = sizes_at(rt, alloc, spec, place);
         assert!(rt; found == want[place], "at {place}");
     }
-    drop(spec);
+    reading.let_go();
 }
 
 static OF_DEPOSITS: &[Sizes] = &[(1, 0, 0, 1), (7, 14, 4, 13), (20, 43, 9, 42), (6, 8, 4, 8)];

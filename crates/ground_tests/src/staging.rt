@@ -4,7 +4,7 @@
 
 use crate::examples::{set, withdrawals};
 use crate::satisfying::all_hold;
-use crate::setting::{items, spec};
+use crate::setting::{items, read, spec_of};
 use ground_atoms::{Atom, Atoms, GroundArg, GroundCall, GroundFormula, IntName};
 use items::Items;
 use proof_lines::Interpretation;
@@ -161,12 +161,13 @@ fn check_relation(rt: &impl Abort, alloc: Global, spec: &Spec, op: u8, stages: S
 
 #[test]
 fn a_relation_reads_as_the_call_leaves_it(rt: HostRuntime) {
-    let spec = spec(&rt, rt.alloc(), set());
+    let reading = read(&rt, rt.alloc(), set());
+    let spec = spec_of(&rt, &reading);
     for stages in &STAGES {
-        check_relation(&rt, rt.alloc(), &spec, 0, *stages);
-        check_relation(&rt, rt.alloc(), &spec, 1, *stages);
+        check_relation(&rt, rt.alloc(), spec, 0, *stages);
+        check_relation(&rt, rt.alloc(), spec, 1, *stages);
     }
-    drop(spec);
+    reading.let_go();
 }
 
 /// The operation, whether the constants are the same, the reading before, the amount, the reading after, and another one.
@@ -227,9 +228,10 @@ fn check_counter(rt: &impl Abort, alloc: Global, spec: &Spec, stages: Stages) {
 
 #[test]
 fn a_counter_reads_as_the_call_leaves_it(rt: HostRuntime) {
-    let spec = spec(&rt, rt.alloc(), withdrawals());
+    let reading = read(&rt, rt.alloc(), withdrawals());
+    let spec = spec_of(&rt, &reading);
     for stages in &STAGES {
-        check_counter(&rt, rt.alloc(), &spec, *stages);
+        check_counter(&rt, rt.alloc(), spec, *stages);
     }
-    drop(spec);
+    reading.let_go();
 }

@@ -8,7 +8,7 @@ ghost use Rattle.instances.specs.Ground.{IsGrounded};
 
 use crate::examples::{guarded, set, withdrawals};
 use crate::satisfying::all_hold;
-use crate::setting::{commute, grounded, items, obligation_at, spec};
+use crate::setting::{commute, grounded, items, obligation_at, read, spec_of};
 use instances::Grounded;
 use model_back::{Named, tried_witness, witness_of};
 use obligation_list::{Obligation, Witness, breaks, list};
@@ -103,14 +103,15 @@ fn check(
     values: Values,
     want: &Wanted,
 ) {
-    let spec = spec(rt, alloc, text);
+    let reading = read(rt, alloc, text);
+    let spec = spec_of(rt, &reading);
     let found = Interpretation {
         truths: items(rt, alloc, values.0),
         ints: items(rt, alloc, values.1),
     };
-    assert!(rt; breaks_by(rt, alloc, &spec, place, obligation, &found, want));
+    assert!(rt; breaks_by(rt, alloc, spec, place, obligation, &found, want));
     drop(found);
-    drop(spec);
+    reading.let_go();
 }
 
 // Two withdrawals of 1 from one account, whose balance is 1, and 0 after the second. The integer names are the amounts, both
@@ -221,16 +222,17 @@ fn tried(
 
 // Whether these values of the put and the drop are a witness, where they are tried.
 fn are_tried(rt: &impl Abort, alloc: Global, truths: &[bool]) -> bool {
-    let spec = spec(rt, alloc, set());
+    let reading = read(rt, alloc, set());
+    let spec = spec_of(rt, &reading);
     let found = Interpretation {
         truths: items(rt, alloc, truths),
         ints: items(rt, alloc, &[]),
     };
-    let witness = tried(rt, alloc, &spec, 1, &found);
+    let witness = tried(rt, alloc, spec, 1, &found);
     let is_witness = witness.is_some();
     drop(witness);
     drop(found);
-    drop(spec);
+    reading.let_go();
     is_witness
 }
 

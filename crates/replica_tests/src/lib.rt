@@ -10,4 +10,6 @@ mod replays;
 #[cfg(test)]
 mod simulations;
 #[cfg(test)]
+mod specifications;
+#[cfg(test)]
 mod tokens;

@@ -1,7 +1,7 @@
 // Reports that are read: line by line, and whole.
 
 use crate::reports::{RAISED, RAISED_DROPPING, REFUTED, UP};
-use crate::running::{Answer, read_by_lines, spec};
+use crate::running::{Answer, read_by_lines, reading_of, spec_of};
 use example_specs::{FLAG, RAISED as RAISING};
 use proof_report::{Block, ReportKind, ReportRefused};
 use report_bytes::read_report;
@@ -24,10 +24,11 @@ static CASES: [Case; 7] = [
 
 // What is answered to the lines of a report without so many of its last bytes.
 fn answered(rt: &impl Abort, alloc: Global, text: &[u8], report: &[u8], cut: usize) -> Answer {
-    let spec = spec(rt, alloc, text);
+    let reading = reading_of(rt, alloc, text);
+    let spec = spec_of(rt, &reading);
     let len = report.len().saturating_sub(cut);
-    let found = read_by_lines(rt, alloc, &spec, &report[..len]);
-    drop(spec);
+    let found = read_by_lines(rt, alloc, spec, &report[..len]);
+    reading.let_go();
     found
 }
 
@@ -64,9 +65,10 @@ fn is_read_whole(alloc: Global, spec: &Spec, text: &[u8]) -> bool {
 
 #[test]
 fn a_cut_report_is_refused(rt: HostRuntime) {
-    let spec = spec(&rt, rt.alloc(), FLAG);
-    let whole = is_read_whole(rt.alloc(), &spec, UP);
-    drop(spec);
+    let reading = reading_of(&rt, rt.alloc(), FLAG);
+    let spec = spec_of(&rt, &reading);
+    let whole = is_read_whole(rt.alloc(), spec, UP);
+    reading.let_go();
     assert!(&rt; whole);
 }
 
@@ -108,9 +110,10 @@ fn is_report(
     version: u8,
     lines: &[u32],
 ) -> bool {
-    let spec = spec(rt, alloc, text);
-    let same = is_read(alloc, &spec, report, version, 10_000, lines);
-    drop(spec);
+    let reading = reading_of(rt, alloc, text);
+    let spec = spec_of(rt, &reading);
+    let same = is_read(alloc, spec, report, version, 10_000, lines);
+    reading.let_go();
     same
 }
 

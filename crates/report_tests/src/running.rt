@@ -21,14 +21,18 @@ pub enum Answer {
     Memory,
 }
 
-/// The specification that a text is.
-pub fn spec(rt: &impl Abort, alloc: Global, text: &[u8]) -> Spec {
+/// What a text is read as. It stays whole, and is let go as a whole.
+pub fn reading_of(rt: &impl Abort, alloc: Global, text: &[u8]) -> Reading {
     assert!(rt; text.len() <= SPECIFICATION_LIMIT);
-    let Ok(Reading::Specified(tree, spec)) = read_bytes(alloc, text) else {
-        panic!(rt; "no specification");
-    };
-    drop(tree);
-    spec
+    read_bytes(alloc, text).expect(rt, "memory")
+}
+
+/// The specification that was read.
+pub fn spec_of<'a>(rt: &impl Abort, reading: &'a Reading) -> &'a Spec {
+    match reading {
+        Reading::Specified(_, spec) => spec,
+        Reading::Refused(_) => panic!(rt; "no specification"),
+    }
 }
 
 // What is answered to a line.

@@ -3,7 +3,7 @@
 use crate::reports::{
     DROPPED_LATE, NAMES_DROPPED, RAISED, RAISED_CUT, RAISED_DROPPING, SPENT, SPENT_UPGRADED,
 };
-use crate::running::{Answer, spec, upgraded, verified};
+use crate::running::{Answer, reading_of, spec_of, upgraded, verified};
 use example_specs::RAISED as RAISING;
 use proof_report::ReportKind;
 use spec_core::Spec;
@@ -32,9 +32,10 @@ fn check_upgraded(rt: &impl Abort, alloc: Global, spec: &Spec) {
 
 #[test]
 fn reports_that_stand_are_upgraded(rt: HostRuntime) {
-    let spec = spec(&rt, rt.alloc(), RAISING);
-    check_upgraded(&rt, rt.alloc(), &spec);
-    drop(spec);
+    let reading = reading_of(&rt, rt.alloc(), RAISING);
+    let spec = spec_of(&rt, &reading);
+    check_upgraded(&rt, rt.alloc(), spec);
+    reading.let_go();
 }
 
 /// A report, the calls of the source and of the sink that fail, the answer, and how much of the upgraded text is written.
@@ -65,7 +66,8 @@ fn check_stopped(rt: &impl Abort, alloc: Global, spec: &Spec, whole: &[u8]) {
 
 #[test]
 fn others_are_refused_and_writes_may_fail(rt: HostRuntime) {
-    let spec = spec(&rt, rt.alloc(), RAISING);
-    check_stopped(&rt, rt.alloc(), &spec, RAISED_DROPPING);
-    drop(spec);
+    let reading = reading_of(&rt, rt.alloc(), RAISING);
+    let spec = spec_of(&rt, &reading);
+    check_stopped(&rt, rt.alloc(), spec, RAISED_DROPPING);
+    reading.let_go();
 }

@@ -5,7 +5,7 @@ use crate::reports::{
     COMBINED, DOWN, FEW, NAMES_DROPPED, NEGATIVE, NOT_SPENT, OTHER_PIVOT, OTHER_PIVOT_CUT,
     OVER_BUDGET, RAISED, RAISED_DROPPING, SHORT_LOG, SPENT, UNCOMBINED, UP, UP_CUT, UP_UNENDED,
 };
-use crate::running::{Answer, spec, verified};
+use crate::running::{Answer, reading_of, spec_of, verified};
 use example_specs::{FLAG, NO_FLAG as LOWERED, RAISED as RAISING};
 use proof_report::ReportKind;
 use spec_core::Spec;
@@ -51,12 +51,13 @@ static OF_ODD: [Case; 3] = [
 
 // Whether all these reports are answered so.
 fn are_answered(rt: &impl Abort, alloc: Global, text: &[u8], cases: &[Case]) -> bool {
-    let spec = spec(rt, alloc, text);
+    let reading = reading_of(rt, alloc, text);
+    let spec = spec_of(rt, &reading);
     let mut same = true;
     for (report, want) in cases {
-        same = same && verified(rt, alloc, &spec, report, 4096, &[]) == *want;
+        same = same && verified(rt, alloc, spec, report, 4096, &[]) == *want;
     }
-    drop(spec);
+    reading.let_go();
     same
 }
 
@@ -88,7 +89,8 @@ fn check_pieces(rt: &impl Abort, alloc: Global, spec: &Spec, report: &[u8]) {
 
 #[test]
 fn reports_come_in_pieces_and_reads_fail(rt: HostRuntime) {
-    let spec = spec(&rt, rt.alloc(), FLAG);
-    check_pieces(&rt, rt.alloc(), &spec, UP);
-    drop(spec);
+    let reading = reading_of(&rt, rt.alloc(), FLAG);
+    let spec = spec_of(&rt, &reading);
+    check_pieces(&rt, rt.alloc(), spec, UP);
+    reading.let_go();
 }

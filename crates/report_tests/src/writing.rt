@@ -1,7 +1,7 @@
 // Reports that are written: a block, and whole ones as they were read.
 
 use crate::reports::VERDICTS;
-use crate::running::spec;
+use crate::running::{reading_of, spec_of};
 use example_specs::FLAG;
 use items::Items;
 use obligation_list::{Obligation, list};
@@ -34,9 +34,10 @@ fn is_written(rt: &impl Abort, alloc: Global, spec: &Spec, text: &[u8]) -> bool 
 
 #[test]
 fn a_block_is_written(rt: HostRuntime) {
-    let spec = spec(&rt, rt.alloc(), FLAG);
-    let same = is_written(&rt, rt.alloc(), &spec, b"init alive\nproved 0\n");
-    drop(spec);
+    let reading = reading_of(&rt, rt.alloc(), FLAG);
+    let spec = spec_of(&rt, &reading);
+    let same = is_written(&rt, rt.alloc(), spec, b"init alive\nproved 0\n");
+    reading.let_go();
     assert!(&rt; same);
 }
 
@@ -98,7 +99,8 @@ fn check_written_again(rt: &impl Abort, alloc: Global, spec: &Spec) {
 
 #[test]
 fn what_is_read_is_written_so(rt: HostRuntime) {
-    let spec = spec(&rt, rt.alloc(), FLAG);
-    check_written_again(&rt, rt.alloc(), &spec);
-    drop(spec);
+    let reading = reading_of(&rt, rt.alloc(), FLAG);
+    let spec = spec_of(&rt, &reading);
+    check_written_again(&rt, rt.alloc(), spec);
+    reading.let_go();
 }

@@ -1,6 +1,6 @@
 // The bank's specification, which its program makes as a record, beside a text of it.
 
-use crate::reading::spec;
+use crate::reading::{reading_of, spec_of};
 use crate::sameness::same_spec;
 use bank_host::bank_spec;
 use std::alloc::{AllocError, Global};
@@ -89,10 +89,11 @@ fn text_with(alloc: Global, changed: Changed) -> Result<Vec<u8>, AllocError> {
 
 /// Whether the bank's record is what a text says.
 fn is_the_bank(rt: &impl Abort, alloc: Global, text: &[u8]) -> bool {
-    let written = spec(rt, alloc, text);
+    let reading = reading_of(rt, alloc, text);
+    let written = spec_of(rt, &reading);
     let made = bank_spec(alloc).expect(rt, "memory");
-    let same = same_spec(&written, &made);
-    drop(written);
+    let same = same_spec(written, &made);
+    reading.let_go();
     drop(made);
     same
 }

@@ -1,6 +1,6 @@
 // The generated specifications beside a text, and how many obligations they have.
 
-use crate::reading::spec;
+use crate::reading::{reading_of, spec_of};
 use crate::sameness::same_spec;
 use obligation_list::list;
 use sample_specs::sample_spec;
@@ -37,10 +37,11 @@ end"
 
 #[test]
 fn the_second_is_what_its_text_says(rt: HostRuntime) {
-    let written = spec(&rt, rt.alloc(), second());
+    let reading = reading_of(&rt, rt.alloc(), second());
+    let written = spec_of(&rt, &reading);
     let made = sample_spec(rt.alloc(), 2).expect(&rt, "memory");
-    let same = same_spec(&written, &made);
-    drop(written);
+    let same = same_spec(written, &made);
+    reading.let_go();
     drop(made);
     assert!(rt; same);
 }

@@ -15,8 +15,8 @@ pub fn lit(atom: u32, positive: bool) -> Lit {
     Lit { atom, positive }
 }
 
-// A problem over plain atoms.
-fn plain(rt: &impl Abort, alloc: Global, atoms: u32, clauses: Items<Clause>) -> Problem {
+/// A problem over plain atoms.
+pub fn plain(rt: &impl Abort, alloc: Global, atoms: u32, clauses: Items<Clause>) -> Problem {
     made(rt, plain_kinds(rt, alloc, atoms), 0, clauses)
 }
 
@@ -71,10 +71,11 @@ fn answer(alloc: Global, problem: &Problem, budget: u32) -> Answer {
 }
 
 // What the search answers to a problem without rows, in short.
-fn asked(alloc: Global, problem: &Problem, budget: u32) -> Summary {
-    let found = answer(alloc, problem, budget);
-    let summary = summary_of(alloc, problem, &found, budget);
+fn asked(alloc: Global, problem: Problem, budget: u32) -> Summary {
+    let found = answer(alloc, &problem, budget);
+    let summary = summary_of(alloc, &problem, &found, budget);
     drop(found);
+    drop(problem);
     summary
 }
 
@@ -92,25 +93,22 @@ fn units(rt: &impl Abort, alloc: Global, signs: &[bool]) -> Problem {
 #[test]
 fn one_atom_is_not_both(rt: HostRuntime) {
     let both = units(&rt, rt.alloc(), &[true, false]);
-    let found = asked(rt.alloc(), &both, 10);
-    drop(both);
-    assert!(rt; found == Summary::Unsat(1));
+    assert!(rt; asked(rt.alloc(), both, 10) == Summary::Unsat(1));
 }
 
 // Whether the search finds an interpretation with just these truths.
-fn is_answered(alloc: Global, problem: &Problem, truths: &[bool]) -> bool {
-    let found = answer(alloc, problem, 10);
-    let summary = is_found(&found, truths, &[]);
+fn is_answered(alloc: Global, problem: Problem, truths: &[bool]) -> bool {
+    let found = answer(alloc, &problem, 10);
+    drop(problem);
+    let is = is_found(&found, truths, &[]);
     drop(found);
-    summary
+    is
 }
 
 #[test]
 fn one_atom_is_true(rt: HostRuntime) {
     let one = units(&rt, rt.alloc(), &[true]);
-    let found = is_answered(rt.alloc(), &one, &[true]);
-    drop(one);
-    assert!(rt; found);
+    assert!(rt; is_answered(rt.alloc(), one, &[true]));
 }
 
 // A pigeon is in one of the holes. The atom `5 * hole + pigeon` says that the pigeon is in the hole.
@@ -167,20 +165,15 @@ fn pigeons(rt: &impl Abort, alloc: Global, holes: u32) -> Problem
 
 #[test]
 fn five_pigeons_are_not_in_four_holes(rt: HostRuntime) {
-    let crowded = pigeons(&rt, rt.alloc(), 4);
-    let found = asked(rt.alloc(), &crowded, 10000);
-    let stopped = asked(rt.alloc(), &crowded, 3);
-    drop(crowded);
-    assert!(rt; matches!(found, Summary::Unsat(_)));
-    assert!(rt; stopped == Summary::Lines(3));
+    let found = asked(rt.alloc(), pigeons(&rt, rt.alloc(), 4), 10000);
+    let stopped = asked(rt.alloc(), pigeons(&rt, rt.alloc(), 4), 3);
+    assert!(rt; matches!(found, Summary::Unsat(_)) && stopped == Summary::Lines(3));
 }
 
 #[test]
 fn five_pigeons_are_in_five_holes(rt: HostRuntime) {
     let roomy = pigeons(&rt, rt.alloc(), 5);
-    let found = asked(rt.alloc(), &roomy, 10000);
-    drop(roomy);
-    assert!(rt; found == Summary::Sat(25));
+    assert!(rt; asked(rt.alloc(), roomy, 10000) == Summary::Sat(25));
 }
 
 // The first atom, and each atom implies the next.
@@ -201,7 +194,5 @@ fn chain(rt: &impl Abort, alloc: Global, atoms: u32) -> Problem
 #[test]
 fn a_long_chain(rt: HostRuntime) {
     let implied = chain(&rt, rt.alloc(), 2000);
-    let found = asked(rt.alloc(), &implied, 1);
-    drop(implied);
-    assert!(rt; found == Summary::Sat(2000));
+    assert!(rt; asked(rt.alloc(), implied, 1) == Summary::Sat(2000));
 }

@@ -3,7 +3,7 @@ ghost use Rattle.std.specs.Prelude.{◌≡◌, ◌↔◌, ◌∷◌, [], true, p
 ghost use Rattle.theory_api.specs.declared.answer.TheoryAnswer.TheVariants.{Split};
 ghost use Rattle.theory_api.specs.Laws.{IsAnswer};
 
-use items::Items;
+use items::{Items, or_drop};
 use lin_rows::number::same_number;
 use lin_rows::{Row, RowTerm};
 use proof_lines::RangeWhat;
@@ -113,12 +113,8 @@ fn gap(alloc: Global) -> Result<TheoryAnswer, AllocError>
     ensures { IfOk result (λ answer. answer ≡ Split 0 (pos 0) (0 ∷ 1 ∷ 2 ∷ []) [] 1 0
         (pos 1 ∷ [])) }
 {
-    let mut used = Items::new(alloc);
-    used.push(0)?;
-    used.push(1)?;
-    used.push(2)?;
-    let mut values = Items::new(alloc);
-    values.push(1)?;
+    let used = Items::from_slice(alloc, &[0, 1, 2])?;
+    let values = or_drop!(Items::from_slice(alloc, &[1]); used);
     Ok(TheoryAnswer::Split {
         place: 0,
         at: 0,

@@ -5,12 +5,12 @@
 // `singles` has single systems worked by hand, `systems` a table of small systems with what another program says of them, and
 // `searches` gives systems to the search. `planes` has systems for the solver that cutting planes guide. `differences` asks the solver of
 // difference rows, and `bounds` has systems for it.
-mod asked;
+pub mod asked;
 mod bounds;
 mod differences;
 mod planes;
 mod proposed;
-mod searches;
+pub mod searches;
 mod singles;
 mod systems;
 mod trimmed;

@@ -7,7 +7,7 @@ use std::alloc::Global;
 use std::process::Abort;
 
 /// An answer whose log or evidence, if it has one, is accepted by the proof kernel.
-#[derive(Clone, Copy, PartialEq, Eq, Debug)]
+#[derive(Clone, Copy, PartialEq)]
 pub enum Summary {
     /// No interpretation, by so many lines.
     Unsat(usize),
@@ -50,6 +50,28 @@ fn range_summary(alloc: Global, problem: &Problem, evidence: &RangeEvidence) -> 
     match check_range(alloc, problem, evidence) {
         Ok(_) => Summary::Range,
         Err(_) => Summary::Other,
+    }
+}
+
+/// What a search said.
+#[derive(Clone, Copy, PartialEq)]
+pub enum Said {
+    /// No interpretation, with a log that the proof kernel accepts.
+    Unsat,
+    Sat,
+    /// No answer of those, or want of memory.
+    Nothing,
+}
+
+/// What an answer to a problem says, in short.
+pub fn in_short(alloc: Global, problem: &Problem, answer: &Answer) -> Said {
+    match answer {
+        Answer::Unsat(log) => match check_log(alloc, problem, log.as_slice()) {
+            Ok(_) => Said::Unsat,
+            Err(_) => Said::Nothing,
+        },
+        Answer::Sat(_) => Said::Sat,
+        _ => Said::Nothing,
     }
 }
 

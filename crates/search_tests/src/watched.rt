@@ -5,7 +5,7 @@
 // `early` has problems whose rows are refuted before all atoms have values, `unneeded_rows` such as have rows that no clause needs,
 // `orders` such as one of the two orders of decisions refutes in fewer lines, and `lookahead` one that lookahead refutes in fewer.
 mod agreement;
-mod asked;
+pub mod asked;
 mod early;
 mod learned;
 mod lookahead;

@@ -8,7 +8,7 @@ use crate::examples::{
     BANK_SUGGESTION, KEPT, KEPT_BEFORE, KEPT_BEHIND, NAMED, NAMED_SUGGESTION, SETS_SUGGESTION,
     SHOP_SUGGESTION, TOURNAMENTS_SUGGESTION, VAST,
 };
-use crate::running::{spec, suggested};
+use crate::running::{reading_of, spec_of, suggested};
 use conflict_variants::{bare, keyed};
 use example_specs::{PURSES, SETS, SHOP, TOURNAMENTS, WITHDRAWALS};
 use spec_core::{Elem, Kind, Spec};
@@ -24,9 +24,10 @@ fn is_suggested(
     counts: SuggestTally,
     suggestion: &[u8],
 ) -> bool {
-    let spec = spec(rt, alloc, text);
-    let (found, tally) = suggested(rt, alloc, &spec, 10_000);
-    drop(spec);
+    let reading = reading_of(rt, alloc, text);
+    let spec = spec_of(rt, &reading);
+    let (found, tally) = suggested(rt, alloc, spec, 10_000);
+    reading.let_go();
     let same = found.as_slice() == suggestion && tally == counts;
     drop(found);
     same
@@ -86,9 +87,10 @@ fn is_between(
     before: &[u8],
     behind: &[u8],
 ) -> bool {
-    let spec = spec(rt, alloc, text);
-    let (found, tally) = suggested(rt, alloc, &spec, 10_000);
-    drop(spec);
+    let reading = reading_of(rt, alloc, text);
+    let spec = spec_of(rt, &reading);
+    let (found, tally) = suggested(rt, alloc, spec, 10_000);
+    reading.let_go();
     let same = tally == counts
         && found.as_slice().starts_with(before)
         && found.as_slice().ends_with(behind);
@@ -136,11 +138,12 @@ fn are_keyed_once(answers: &[PairAnswer]) -> bool {
 #[test]
 fn answers_each_pair(rt: HostRuntime) {
     let alloc = rt.alloc();
-    let spec = spec(&rt, alloc, SETS);
-    let answers = pairs(alloc, &spec, 10_000).expect(&rt, "memory");
+    let reading = reading_of(&rt, alloc, SETS);
+    let spec = spec_of(&rt, &reading);
+    let answers = pairs(alloc, spec, 10_000).expect(&rt, "memory");
     let good = are_keyed_once(answers.as_slice());
     drop(answers);
-    drop(spec);
+    reading.let_go();
     assert!(rt; good);
 }
 
@@ -155,9 +158,10 @@ fn has_lines(spec: &Spec, place: usize, takes: usize, observes: usize) -> bool {
 #[test]
 fn makes_bare_specifications(rt: HostRuntime) {
     let alloc = rt.alloc();
-    let shop = spec(&rt, alloc, SHOP);
-    let none = bare(alloc, &shop).expect(&rt, "memory");
-    drop(shop);
+    let reading = reading_of(&rt, alloc, SHOP);
+    let shop = spec_of(&rt, &reading);
+    let none = bare(alloc, shop).expect(&rt, "memory");
+    reading.let_go();
     let is_bare = none.version == 2
         && none.tokens.is_empty()
         && none.rules.is_empty()
@@ -234,11 +238,12 @@ fn takes_first(spec: &Spec, place: usize, token: u8) -> bool {
 #[test]
 fn makes_keyed_specifications(rt: HostRuntime) {
     let alloc = rt.alloc();
-    let bank = spec(&rt, alloc, PURSES);
+    let reading = reading_of(&rt, alloc, PURSES);
+    let bank = spec_of(&rt, &reading);
     assert!(rt; 1 < bank.operations.len());
-    assert!(rt; have_one_sort(&bank, 0, 1));
-    let both = keyed(alloc, &bank, 0, 0, 1, 0).expect(&rt, "memory");
-    drop(bank);
+    assert!(rt; have_one_sort(bank, 0, 1));
+    let both = keyed(alloc, bank, 0, 0, 1, 0).expect(&rt, "memory");
+    reading.let_go();
     let is_keyed = both.tokens.len() == 2
         && both.rules.len() == 1
         && takes_first(&both, 0, 0)

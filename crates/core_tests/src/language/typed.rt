@@ -1,8 +1,14 @@
 // What a tree is: the specification that it declares, or the least of what is wrong with it.
 //
 // Each of the trees that are refused has two faults. Words count from 0, and the second fault stands at a later one.
+
+ghost use Rattle.spec_trees.specs.Form.{tree_of};
+ghost use Rattle.spec_trees.specs.Trees.{IsTree};
+
 use spec_core::{Name, Spec};
+use spec_from_bytes::Reading;
 use spec_reader::parse;
+use spec_trees::Tree;
 use spec_types::{TypeRefused, type_tree};
 use std::alloc::Global;
 use std::process::Abort;
@@ -48,8 +54,10 @@ static FAULTY: [Case; 5] = [
     ),
 ];
 
-// What the tree of a text is. A text that isn't read ends the test.
-fn typed(rt: &impl Abort, alloc: Global, text: &[u8]) -> Result<Spec, TypeRefused> {
+// The tree of a text. A text that isn't read ends the test.
+fn tree(rt: &impl Abort, alloc: Global, text: &[u8]) -> Tree
+    ensures { IsTree (tree_of result) }
+{
     assert!(rt; text.len() <= 65536);
     let Ok(words) = cut(alloc, text) else {
         panic!(rt; "no words");
@@ -58,9 +66,7 @@ fn typed(rt: &impl Abort, alloc: Global, text: &[u8]) -> Result<Spec, TypeRefuse
         panic!(rt; "no tree");
     };
     drop(words);
-    let typed = type_tree(alloc, &tree);
-    drop(tree);
-    typed
+    tree
 }
 
 fn is_at(found: &Name, at: u32, name: &[u8], word: u32) -> bool {
@@ -90,20 +96,34 @@ fn is_refused(refused: &TypeRefused, fault: Fault, name: &[u8], word: u32) -> bo
     }
 }
 
+// Whether the tree of a text is no specification, for this fault.
+fn has_fault(
+    rt: &impl Abort,
+    alloc: Global,
+    text: &[u8],
+    fault: Fault,
+    name: &[u8],
+    word: u32,
+) -> bool {
+    let tree = tree(rt, alloc, text);
+    match type_tree(alloc, &tree) {
+        Ok(spec) => {
+            Reading::Specified(tree, spec).let_go();
+            false
+        }
+        Err(refused) => {
+            drop(tree);
+            let same = is_refused(&refused, fault, name, word);
+            drop(refused);
+            same
+        }
+    }
+}
+
 #[test]
 fn the_least_of_two_faults_is_named(rt: HostRuntime) {
     for (text, fault, name, word) in &FAULTY {
-        match typed(&rt, rt.alloc(), text) {
-            Ok(spec) => {
-                drop(spec);
-                panic!(&rt; "a specification");
-            }
-            Err(refused) => {
-                let same = is_refused(&refused, *fault, name, *word);
-                drop(refused);
-                assert!(&rt; same);
-            }
-        }
+        assert!(&rt; has_fault(&rt, rt.alloc(), text, *fault, name, *word));
     }
 }
 
@@ -115,18 +135,31 @@ fn declares(spec: &Spec, relation: &[u8], operation: &[u8]) -> bool {
     }
 }
 
+// Whether the tree of a text is a specification with one relation and one operation, of these names.
+fn is_specified(
+    rt: &impl Abort,
+    alloc: Global,
+    text: &[u8],
+    relation: &[u8],
+    operation: &[u8],
+) -> bool {
+    let tree = tree(rt, alloc, text);
+    match type_tree(alloc, &tree) {
+        Ok(spec) => {
+            let same = declares(&spec, relation, operation);
+            Reading::Specified(tree, spec).let_go();
+            same
+        }
+        Err(refused) => {
+            drop(tree);
+            drop(refused);
+            false
+        }
+    }
+}
+
 #[test]
 fn a_tree_without_a_fault_is_a_specification(rt: HostRuntime) {
     let text = b"cise 1 sort A relation r ( A ) operation put ( x : A ) insert r ( x ) end";
-    match typed(&rt, rt.alloc(), text) {
-        Ok(spec) => {
-            let same = declares(&spec, b"r", b"put");
-            drop(spec);
-            assert!(&rt; same);
-        }
-        Err(refused) => {
-            drop(refused);
-            panic!(&rt; "no specification");
-        }
-    }
+    assert!(&rt; is_specified(&rt, rt.alloc(), text, b"r", b"put"));
 }

@@ -1,13 +1,13 @@
 // A host and the nodes of a network ask the application's code: where that lacks memory, so does a step that fits.
 
-ghost use Rattle.std.specs.Prelude.{◌≡◌, ◌≤◌};
-ghost use Rattle.std.specs.Prelude.{◌≡◌, true};
+ghost use Rattle.std.specs.Prelude.{◌≡◌, ◌≤◌, true};
 ghost use Rattle.spec_core.specs.Fits.{world_fits};
 
 use crate::hosts::bank::TWO_DEPOSITS;
 use crate::hosts::evaluated::Evaluated;
 use crate::hosts::memory::NoMemory;
 use crate::hosts::running::bank;
+use crate::specifications::spec_of;
 use replica_host::{Effect, Guard, Host, Native};
 use replica_replay::{Step, StepRefused};
 use schedule_json::{Schedule, read_schedule};
@@ -54,29 +54,38 @@ fn guard_lacks(rt: &impl Abort, alloc: Global, spec: &Spec, schedule: &Schedule)
     lacks_memory(rt, alloc, native, schedule)
 }
 
+/// The schedule of two deposits of the bank.
+fn two_deposits(rt: &impl Abort, alloc: Global, spec: &Spec) -> Schedule
+    ensures world { world_fits spec.now result.world ≡ true }
+    ensures some { 1 ≤ result.replicas }
+{
+    match read_schedule(alloc, spec, TWO_DEPOSITS) {
+        Ok(schedule) => schedule,
+        Err(_) => panic!(rt; "no schedule"),
+    }
+}
+
 #[test]
 fn the_effect_is_called(rt: HostRuntime) {
     let alloc = rt.alloc();
-    let spec = bank(&rt, alloc);
-    let Ok(schedule) = read_schedule(alloc, &spec, TWO_DEPOSITS) else {
-        panic!(&rt; "no schedule");
-    };
-    let lacks = effect_lacks(&rt, alloc, &spec, &schedule);
+    let reading = bank(&rt, alloc);
+    let spec = spec_of(&rt, &reading);
+    let schedule = two_deposits(&rt, alloc, spec);
+    let lacks = effect_lacks(&rt, alloc, spec, &schedule);
     drop(schedule);
-    drop(spec);
+    reading.let_go();
     assert!(&rt; lacks);
 }
 
 #[test]
 fn the_guard_is_asked(rt: HostRuntime) {
     let alloc = rt.alloc();
-    let spec = bank(&rt, alloc);
-    let Ok(schedule) = read_schedule(alloc, &spec, TWO_DEPOSITS) else {
-        panic!(&rt; "no schedule");
-    };
-    let lacks = guard_lacks(&rt, alloc, &spec, &schedule);
+    let reading = bank(&rt, alloc);
+    let spec = spec_of(&rt, &reading);
+    let schedule = two_deposits(&rt, alloc, spec);
+    let lacks = guard_lacks(&rt, alloc, spec, &schedule);
     drop(schedule);
-    drop(spec);
+    reading.let_go();
     assert!(&rt; lacks);
 }
 
@@ -97,39 +106,29 @@ fn network_lacks_memory<'a, E: Effect, G: Guard>(
 #[test]
 fn the_effect_is_called_by_a_network(rt: HostRuntime) {
     let alloc = rt.alloc();
-    let spec = bank(&rt, alloc);
-    let Ok(schedule) = read_schedule(alloc, &spec, TWO_DEPOSITS) else {
-        panic!(&rt; "no schedule");
-    };
+    let reading = bank(&rt, alloc);
+    let spec = spec_of(&rt, &reading);
+    let schedule = two_deposits(&rt, alloc, spec);
     let world = &schedule.world;
-    let guard = Evaluated {
-        alloc,
-        spec: &spec,
-        world,
-    };
-    let native = Native::new(&spec, world, NoMemory {}, guard);
-    let lacks = network_lacks_memory(alloc, &spec, native, &schedule);
+    let guard = Evaluated { alloc, spec, world };
+    let native = Native::new(spec, world, NoMemory {}, guard);
+    let lacks = network_lacks_memory(alloc, spec, native, &schedule);
     drop(schedule);
-    drop(spec);
+    reading.let_go();
     assert!(&rt; lacks);
 }
 
 #[test]
 fn the_guard_is_asked_by_a_network(rt: HostRuntime) {
     let alloc = rt.alloc();
-    let spec = bank(&rt, alloc);
-    let Ok(schedule) = read_schedule(alloc, &spec, TWO_DEPOSITS) else {
-        panic!(&rt; "no schedule");
-    };
+    let reading = bank(&rt, alloc);
+    let spec = spec_of(&rt, &reading);
+    let schedule = two_deposits(&rt, alloc, spec);
     let world = &schedule.world;
-    let effect = Evaluated {
-        alloc,
-        spec: &spec,
-        world,
-    };
-    let native = Native::new(&spec, world, effect, NoMemory {});
-    let lacks = network_lacks_memory(alloc, &spec, native, &schedule);
+    let effect = Evaluated { alloc, spec, world };
+    let native = Native::new(spec, world, effect, NoMemory {});
+    let lacks = network_lacks_memory(alloc, spec, native, &schedule);
     drop(schedule);
-    drop(spec);
+    reading.let_go();
     assert!(&rt; lacks);
 }

@@ -4,24 +4,20 @@ ghost use Rattle.std.specs.Prelude.{◌≡◌, ◌≤◌, true};
 ghost use Rattle.spec_core.specs.Fits.{world_fits};
 
 use crate::hosts::evaluated::Evaluated;
+use crate::specifications::{read, spec_of};
 use byte_ports::Answer;
 use example_specs::PURSES;
 use replay_text::replay_by;
 use replica_host::{Effect, Guard, Host, Native};
 use schedule_json::{Schedule, read_schedule};
 use spec_core::{Spec, World};
-use spec_from_bytes::{Reading, SPECIFICATION_LIMIT, read_bytes};
+use spec_from_bytes::Reading;
 use std::alloc::Global;
 use std::process::Abort;
 
-/// The bank.
-pub fn bank(rt: &impl Abort, alloc: Global) -> Spec {
-    assert!(rt; PURSES.len() <= SPECIFICATION_LIMIT);
-    let Ok(Reading::Specified(tree, spec)) = read_bytes(alloc, PURSES) else {
-        panic!(rt; "no specification");
-    };
-    drop(tree);
-    spec
+/// What the text of the bank is read as.
+pub fn bank(rt: &impl Abort, alloc: Global) -> Reading {
+    read(rt, alloc, PURSES)
 }
 
 /// The text and the status of a schedule that a host goes through.
@@ -63,13 +59,14 @@ pub fn evaluating<'a>(
 
 /// The text and the status of a schedule of the bank, by a host whose code evaluates its lines and updates.
 pub fn hosted(rt: &impl Abort, alloc: Global, text: &[u8]) -> Answer {
-    let spec = bank(rt, alloc);
-    let Ok(schedule) = read_schedule(alloc, &spec, text) else {
+    let reading = bank(rt, alloc);
+    let spec = spec_of(rt, &reading);
+    let Ok(schedule) = read_schedule(alloc, spec, text) else {
         panic!(rt; "no schedule");
     };
-    let native = evaluating(alloc, &spec, &schedule.world);
-    let report = report_of(rt, alloc, &spec, native, &schedule);
+    let native = evaluating(alloc, spec, &schedule.world);
+    let report = report_of(rt, alloc, spec, native, &schedule);
     drop(schedule);
-    drop(spec);
+    reading.let_go();
     report
 }

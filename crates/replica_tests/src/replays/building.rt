@@ -1,7 +1,8 @@
 // A stock of goods, in version 2 of the language. What lacks memory, and what is no specification, ends the test.
 
-use spec_core::{Name, Spec};
-use spec_from_bytes::{Reading, SPECIFICATION_LIMIT, read_bytes};
+use crate::specifications::read;
+use spec_core::Name;
+use spec_from_bytes::Reading;
 use std::alloc::Global;
 use std::process::Abort;
 
@@ -21,13 +22,7 @@ operation sell ( n : int ) requires ( stock >= n ) add stock - n takes shop end
 operation report ( n : int ) observes ( stock = n ) add stock 0 * n end"
 }
 
-/// The specification that the text is.
-pub fn goods(rt: &impl Abort, alloc: Global) -> Spec {
-    let text = text();
-    assert!(rt; text.len() <= SPECIFICATION_LIMIT);
-    let Ok(Reading::Specified(tree, spec)) = read_bytes(alloc, text) else {
-        panic!(rt; "no specification");
-    };
-    drop(tree);
-    spec
+/// What the text is read as.
+pub fn goods(rt: &impl Abort, alloc: Global) -> Reading {
+    read(rt, alloc, text())
 }

@@ -1,6 +1,7 @@
 // Worked examples of steps: those that are accepted, and each refusal.
 
 use crate::replays::building::{goods, name};
+use crate::specifications::spec_of;
 use items::Items;
 use replica_replay::{Plain, Replay, Step, StepRefused, Taken};
 use spec_core::World;
@@ -125,17 +126,18 @@ fn check_end(rt: &impl Abort, replay: &Replay<Plain>) {
 #[test]
 fn each_step_is_accepted_or_refused_for_its_first_cause(rt: HostRuntime) {
     let alloc = rt.alloc();
-    let spec = goods(&rt, alloc);
+    let reading = goods(&rt, alloc);
+    let spec = spec_of(&rt, &reading);
     let world = World {
         sizes: Items::new(alloc),
         consts: Items::new(alloc),
     };
-    assert!(rt; world.fits(&spec));
-    let runner = Plain::new(alloc, &spec, &world);
+    assert!(rt; world.fits(spec));
+    let runner = Plain::new(alloc, spec, &world);
     let mut replay = Replay::new(alloc, runner, 2).expect(&rt, "memory");
     check_steps(&rt, alloc, &mut replay);
     check_end(&rt, &replay);
     drop(replay);
     drop(world);
-    drop(spec);
+    reading.let_go();
 }

@@ -1,11 +1,11 @@
 // Schedules, with the status and the text that each comes to.
 
 use crate::simulations::examples::{no_flag, purses, withdrawals};
+use crate::specifications::{read, spec_of};
 use byte_ports::Answer;
 use schedule_json::MOST_SCHEDULE_BYTES;
 use simulate_text::simulate_bytes;
 use spec_core::Spec;
-use spec_from_bytes::{Reading, SPECIFICATION_LIMIT, read_bytes};
 use std::alloc::Global;
 use std::process::Abort;
 
@@ -188,15 +188,6 @@ replica 0 taken 0
 ",
 }];
 
-fn spec(rt: &impl Abort, alloc: Global, text: &[u8]) -> Spec {
-    assert!(rt; text.len() <= SPECIFICATION_LIMIT);
-    let Ok(Reading::Specified(tree, spec)) = read_bytes(alloc, text) else {
-        panic!(rt; "no specification");
-    };
-    drop(tree);
-    spec
-}
-
 fn comes_to(report: &Answer, row: &Row) -> bool {
     report.status == row.status && report.text.as_slice() == row.text
 }
@@ -210,11 +201,12 @@ fn check_row(rt: &impl Abort, alloc: Global, spec: &Spec, row: &Row) {
 }
 
 fn check(rt: &impl Abort, alloc: Global, text: &[u8], rows: &[Row]) {
-    let spec = spec(rt, alloc, text);
+    let reading = read(rt, alloc, text);
+    let spec = spec_of(rt, &reading);
     for row in rows {
-        check_row(rt, alloc, &spec, row);
+        check_row(rt, alloc, spec, row);
     }
-    drop(spec);
+    reading.let_go();
 }
 
 #[test]

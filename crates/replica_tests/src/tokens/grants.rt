@@ -1,7 +1,8 @@
 // What the manager answers to requests, one after the other.
 
+use crate::specifications::{read, spec_of};
 use crate::tokens::examples::purses;
-use crate::tokens::setting::{is_id, items, spec};
+use crate::tokens::setting::{is_id, items};
 use spec_core::{Call, Spec, World};
 use std::alloc::Global;
 use std::process::Abort;
@@ -90,12 +91,13 @@ fn check_requests(rt: &impl Abort, alloc: Global, spec: &Spec, world: &World) {
 #[test]
 fn the_manager_names_what_was_granted_before(rt: HostRuntime) {
     let alloc = rt.alloc();
-    let spec = spec(&rt, alloc, purses());
+    let reading = read(&rt, alloc, purses());
+    let spec = spec_of(&rt, &reading);
     let world = World {
         sizes: items(&rt, alloc, &[2]),
         consts: items(&rt, alloc, &[]),
     };
-    check_requests(&rt, alloc, &spec, &world);
-    drop(spec);
+    check_requests(&rt, alloc, spec, &world);
     drop(world);
+    reading.let_go();
 }

@@ -4,8 +4,9 @@ ghost use Rattle.std.specs.Prelude.{◌≡◌, true};
 ghost use Rattle.spec_core.specs.Fits.{world_fits};
 ghost use Rattle.token_core.specs.Held.{waiting_fits, message_fits};
 
+use crate::specifications::{read, spec_of};
 use crate::tokens::examples::purses;
-use crate::tokens::setting::{items, spec};
+use crate::tokens::setting::items;
 use items::{Items, SharedList};
 use spec_core::{Call, Spec, World};
 use std::alloc::Global;
@@ -264,13 +265,14 @@ fn go(rt: &impl Abort, alloc: Global, spec: &Spec, world: &World)
 #[test]
 fn a_node_answers_calls_and_messages(rt: HostRuntime) {
     let alloc = rt.alloc();
-    let spec = spec(&rt, alloc, purses());
+    let reading = read(&rt, alloc, purses());
+    let spec = spec_of(&rt, &reading);
     let world = World {
         sizes: items(&rt, alloc, &[1]),
         consts: Items::new(alloc),
     };
-    assert!(&rt; world.fits(&spec));
-    go(&rt, alloc, &spec, &world);
-    drop(spec);
+    assert!(&rt; world.fits(spec));
+    go(&rt, alloc, spec, &world);
     drop(world);
+    reading.let_go();
 }

@@ -3,9 +3,9 @@
 ghost use Rattle.std.specs.Prelude.{◌≡◌, true};
 ghost use Rattle.spec_core.specs.Fits.{world_fits};
 
+use crate::specifications::{read, spec_of};
 use items::Items;
 use spec_core::{Call, Spec, World};
-use spec_from_bytes::{Reading, SPECIFICATION_LIMIT, read_bytes};
 use std::alloc::Global;
 use std::process::Abort;
 use token_core::{EventId, Net, NetDid, NetRefused, NetStep, Plain, WhyVoid};
@@ -119,16 +119,6 @@ fn take_step(rt: &impl Abort, alloc: Global, net: &mut Net<Plain>, step: Step, w
     done
 }
 
-/// The specification that a text says.
-pub fn spec(rt: &impl Abort, alloc: Global, text: &[u8]) -> Spec {
-    assert!(rt; text.len() <= SPECIFICATION_LIMIT);
-    let Ok(Reading::Specified(tree, spec)) = read_bytes(alloc, text) else {
-        panic!(rt; "no specification");
-    };
-    drop(tree);
-    spec
-}
-
 // The first counter of a replica has this value at the first element.
 fn check_value(rt: &impl Abort, net: &Net<Plain>, replica: u32, value: i128) {
     assert!(rt; (replica as usize) < net.replica_count());
@@ -178,13 +168,14 @@ pub fn check(
     table: &[(Step, Want)],
     values: &[i128],
 ) {
-    let spec = spec(rt, alloc, text);
+    let reading = read(rt, alloc, text);
+    let spec = spec_of(rt, &reading);
     let world = World {
         sizes: items(rt, alloc, sizes),
         consts: Items::new(alloc),
     };
-    assert!(rt; world.fits(&spec));
-    go(rt, alloc, &spec, &world, replicas, table, values);
-    drop(spec);
+    assert!(rt; world.fits(spec));
+    go(rt, alloc, spec, &world, replicas, table, values);
     drop(world);
+    reading.let_go();
 }

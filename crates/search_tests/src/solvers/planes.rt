@@ -1,6 +1,7 @@
 // Systems that the solver guided by cutting planes decides, and such as it leaves to elimination.
 use crate::solvers::asked::{Case, Told, check_planes};
-use crate::solvers::searches::{Found, Search, check_searches};
+use crate::solvers::searches::{Search, check_searches};
+use crate::summaries::Said;
 
 static ALONE: &[Case] = &[
     // Twice the first name is the second, which is 1. Elimination splits; a cut says that the first is at most 0, and another that it
@@ -133,7 +134,7 @@ static SEARCHED: &[Search] = &[
             (&[0, 0, -1, 4], -2),
         ],
         4,
-        Found::Unsat,
+        Said::Unsat,
     ),
     // 1020095 is the greatest number that isn't a sum of coins of 1009 and 1013, by the formula of Frobenius.
     (
@@ -144,10 +145,10 @@ static SEARCHED: &[Search] = &[
             (&[0, -1], 0),
         ],
         2,
-        Found::Unsat,
+        Said::Unsat,
     ),
     // A difference of one is found, since the two numbers have no common divisor.
-    (&[(&[997, -1009], 1), (&[-997, 1009], -1)], 2, Found::Sat),
+    (&[(&[997, -1009], 1), (&[-997, 1009], -1)], 2, Said::Sat),
     // Four quotients in a circle multiply to less than 1, so each name would be less than itself, unless it is at most 0.
     (
         &[
@@ -158,7 +159,7 @@ static SEARCHED: &[Search] = &[
             (&[-1], -1),
         ],
         4,
-        Found::Unsat,
+        Said::Unsat,
     ),
 ];
 

@@ -1,24 +1,15 @@
 // Systems as the rows of a problem, each a clause of its own, given to the search.
 use crate::solvers::asked::{Line, row};
+use crate::summaries::{Said, in_short};
+use crate::watched::asked::said_plainly;
 use items::Items;
-use linear_ints::Eliminator;
 use proof_lines::{AtomKind, Clause, Lit, Problem};
-use sat_core::{Answer, solve_plain};
 use std::alloc::{AllocError, Global};
 use std::process::Abort;
 use watched_search::search;
 
 /// The rows of a system, how many names they have, and what the search finds.
-pub type Search = (&'static [Line<'static>], u32, Found);
-
-/// What the search found.
-#[derive(Clone, Copy, PartialEq)]
-pub enum Found {
-    Unsat,
-    Sat,
-    /// No decision, or want of memory.
-    Nothing,
-}
+pub type Search = (&'static [Line<'static>], u32, Said);
 
 fn only(alloc: Global, atom: u32) -> Result<Clause, AllocError> {
     Clause::of(
@@ -48,7 +39,8 @@ fn atoms_of(alloc: Global, lines: &[Line]) -> Result<Items<AtomKind>, AllocError
     Ok(atoms)
 }
 
-fn problem_of(alloc: Global, lines: &[Line], ints: u32) -> Result<Option<Problem>, AllocError> {
+/// The problem in which each row of lines is to be true.
+pub fn problem_of(alloc: Global, lines: &[Line], ints: u32) -> Result<Option<Problem>, AllocError> {
     let atoms = atoms_of(alloc, lines)?;
     match clauses_of(alloc, lines) {
         Ok(clauses) => Ok(Problem::new(atoms, ints, clauses)),
@@ -59,38 +51,29 @@ fn problem_of(alloc: Global, lines: &[Line], ints: u32) -> Result<Option<Problem
     }
 }
 
-// Lets go of an answer, and says what it was.
-fn told(answer: Answer) -> Found {
-    let found = match &answer {
-        Answer::Unsat(_) => Found::Unsat,
-        Answer::Sat(_) => Found::Sat,
-        _ => Found::Nothing,
-    };
-    drop(answer);
-    found
-}
-
 /// What the plain search, with the elimination solver, says of the rows of lines.
-pub fn find(alloc: Global, lines: &[Line], ints: u32) -> Found {
+pub fn find(alloc: Global, lines: &[Line], ints: u32) -> Said {
     match problem_of(alloc, lines, ints) {
         Ok(Some(problem)) => {
-            let answer = solve_plain(alloc, &problem, &mut Eliminator::new(), 1000);
+            let found = said_plainly(alloc, &problem, 1000);
             drop(problem);
-            told(answer)
+            found
         }
-        _ => Found::Nothing,
+        _ => Said::Nothing,
     }
 }
 
 /// What the search with the solver of its choice says of the rows of lines, in as many lines of a log at most.
-pub fn find_within(alloc: Global, lines: &[Line], ints: u32, budget: u32) -> Found {
+pub fn find_within(alloc: Global, lines: &[Line], ints: u32, budget: u32) -> Said {
     match problem_of(alloc, lines, ints) {
         Ok(Some(problem)) => {
             let answer = search(alloc, &problem, budget);
+            let found = in_short(alloc, &problem, &answer);
+            drop(answer);
             drop(problem);
-            told(answer)
+            found
         }
-        _ => Found::Nothing,
+        _ => Said::Nothing,
     }
 }
 

@@ -1,6 +1,7 @@
 // Single systems, worked by hand.
 use crate::solvers::asked::{Case, Line, Told, ask, check_all, refutes_by, row};
-use crate::solvers::searches::{Found, find};
+use crate::solvers::searches::find;
+use crate::summaries::Said;
 use lin_rows::Row;
 use linear_ints::Eliminator;
 use proof_lines::RowStep;
@@ -76,7 +77,7 @@ fn single_systems_are_decided(rt: HostRuntime) {
 
 #[test]
 fn the_search_refutes_what_is_split(rt: HostRuntime) {
-    assert!(rt; find(rt.alloc(), half_of_one(), 2) == Found::Unsat);
+    assert!(rt; find(rt.alloc(), half_of_one(), 2) == Said::Unsat);
 }
 
 // The first name is eliminated first, which gives `x2 <= 2`; then twice the second is at most 1 and at least 1. The conflict rests on

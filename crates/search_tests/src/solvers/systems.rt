@@ -4,7 +4,8 @@
 // the second row is the opposite of the first, or is that a little apart, so that many have points over fractions and none over whole
 // numbers.
 use crate::solvers::asked::{Line, Told, tell, tell_planes};
-use crate::solvers::searches::{Found, find, find_within};
+use crate::solvers::searches::{find, find_within};
+use crate::summaries::Said;
 
 // Three names from -`below` to `above`, and three rows: coefficients, then the bound.
 struct System {
@@ -337,11 +338,11 @@ fn lines_of(system: &System) -> [Line<'_>; 9] {
     ]
 }
 
-fn is_right(has_model: bool, told: Told, found: Found) -> bool {
+fn is_right(has_model: bool, told: Told, found: Said) -> bool {
     match told {
-        Told::Model { first: _ } => has_model && found == Found::Sat,
-        Told::Conflict => !has_model && found == Found::Unsat,
-        Told::Split { .. } => found == if has_model { Found::Sat } else { Found::Unsat },
+        Told::Model { first: _ } => has_model && found == Said::Sat,
+        Told::Conflict => !has_model && found == Said::Unsat,
+        Told::Split { .. } => found == if has_model { Said::Sat } else { Said::Unsat },
         _ => false,
     }
 }

@@ -9,7 +9,7 @@ use simplex::{Number, Pivoted, Slack, Tableau, add_row, numerator_at, solve, sta
 use std::alloc::Global;
 
 /// How the pivots end.
-#[derive(Clone, Copy, PartialEq, Debug)]
+#[derive(Clone, Copy, PartialEq)]
 enum Ended {
     /// With the numerators of both names over a common denominator.
     Vertex {
@@ -56,12 +56,16 @@ fn vertex<N: Number>(tableau: &Tableau<N>, alloc: Global) -> Option<Ended> {
 
 fn refutation<N: Number>(tableau: &Tableau<N>, number: usize) -> Option<Ended> {
     let equation = tableau.equations.get(number)?;
-    let columns = tableau.columns.as_slice();
-    let multiples = equation.numerators.as_slice();
+    let [first, second] = tableau.columns.as_slice() else {
+        return None;
+    };
+    let [one, other] = equation.numerators.as_slice() else {
+        return None;
+    };
     Some(Ended::Refuted {
         basic: equation.basic,
-        columns: [*columns.first()?, *columns.get(1)?],
-        multiples: [multiples.first()?.wide(), multiples.get(1)?.wide()],
+        columns: [*first, *second],
+        multiples: [one.wide(), other.wide()],
     })
 }
 

@@ -1,5 +1,6 @@
 // Both searches say the same of twenty problems.
-use crate::watched::asked::{Said, both_say};
+use crate::summaries::Said;
+use crate::watched::asked::both_say;
 use std::alloc::Global;
 
 // No interpretation satisfies these.

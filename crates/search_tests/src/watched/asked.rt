@@ -1,32 +1,12 @@
 // What the two searches answer, in short.
+use crate::summaries::{Said, in_short};
 use crate::watched::problems::problem;
 use linear_ints::Eliminator;
-use proof_kernel::check_log;
 use proof_lines::Problem;
-use sat_core::{Answer, solve_plain};
+use sat_core::solve_plain;
 use std::alloc::Global;
+use std::process::Abort;
 use watched_search::solve;
-
-/// What a search said.
-#[derive(Clone, Copy, PartialEq, Eq, Debug)]
-pub enum Said {
-    /// No interpretation, with a log that the proof kernel accepts.
-    Unsat,
-    Sat,
-    /// No answer of those.
-    Nothing,
-}
-
-fn in_short(alloc: Global, problem: &Problem, answer: &Answer) -> Said {
-    match answer {
-        Answer::Unsat(log) => match check_log(alloc, problem, log.as_slice()) {
-            Ok(_) => Said::Unsat,
-            Err(_) => Said::Nothing,
-        },
-        Answer::Sat(_) => Said::Sat,
-        _ => Said::Nothing,
-    }
-}
 
 /// What the plain search says with a budget of lines.
 pub fn said_plainly(alloc: Global, problem: &Problem, budget: u32) -> Said {
@@ -67,4 +47,12 @@ pub fn both_say(alloc: Global, text: &str, what: Said) -> bool {
         }
         _ => false,
     }
+}
+
+/// Checks what the search on watched literals says of the problem of a text.
+pub fn check(rt: &impl Abort, alloc: Global, text: &str, budget: u32, want: Said) {
+    assert!(rt;
+        said_of(alloc, text, budget) == want,
+        "{text} in {budget} lines"
+    );
 }

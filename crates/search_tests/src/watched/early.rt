@@ -1,5 +1,6 @@
 // Problems whose rows the solver is asked about before all atoms have values.
-use crate::watched::asked::{Said, both_say, said_by_watching, said_plainly};
+use crate::summaries::Said;
+use crate::watched::asked::{both_say, said_by_watching, said_plainly};
 use crate::watched::problems::problem;
 use std::alloc::Global;
 

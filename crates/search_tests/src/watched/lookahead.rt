@@ -1,10 +1,13 @@
 // A problem that takes more lines than the budget of a check in each order of decisions, but fewer by lookahead.
 ghost use Rattle.std.specs.Prelude.{◌≡◌};
 
-use crate::watched::asked::{Said, said_by_watching};
+use crate::clauses::{lit, plain};
+use crate::summaries::Said;
+use crate::watched::asked::said_by_watching;
 use items::Items;
-use proof_lines::{AtomKind, Clause, Lit, Problem};
+use proof_lines::{Clause, Lit};
 use std::alloc::{AllocError, Global};
+use std::process::Abort;
 
 const ATOMS: u32 = 120;
 
@@ -36,7 +39,7 @@ impl Generator {
 }
 
 fn has_atom(clause: &Clause, atom: u32) -> bool {
-    clause.lits().iter().any(|lit| lit.atom == atom)
+    clause.holds(lit(atom, true)) || clause.holds(lit(atom, false))
 }
 
 // A clause of three atoms.
@@ -60,29 +63,17 @@ fn clauses(alloc: Global, seed: u64) -> Result<Items<Clause>, AllocError> {
     Ok(clauses)
 }
 
-fn kinds(alloc: Global) -> Result<Items<AtomKind>, AllocError> {
-    let mut kinds = Items::new(alloc);
-    for _ in 0..ATOMS {
-        kinds.push(AtomKind::Plain)?;
-    }
-    Ok(kinds)
-}
-
-fn said_of_seed(alloc: Global, seed: u64, budget: u32) -> Said {
-    let (Ok(kinds), Ok(clauses)) = (kinds(alloc), clauses(alloc, seed)) else {
+fn said_of_seed(rt: &impl Abort, alloc: Global, seed: u64, budget: u32) -> Said {
+    let Ok(clauses) = clauses(alloc, seed) else {
         return Said::Nothing;
     };
-    match Problem::new(kinds, 0, clauses) {
-        Some(problem) => {
-            let said = said_by_watching(alloc, &problem, budget);
-            drop(problem);
-            said
-        }
-        None => Said::Nothing,
-    }
+    let problem = plain(rt, alloc, ATOMS, clauses);
+    let said = said_by_watching(alloc, &problem, budget);
+    drop(problem);
+    said
 }
 
 #[test]
 fn random_clauses_over_120_atoms_are_refuted_with_the_budget_of_a_check(rt: HostRuntime) {
-    assert!(rt; said_of_seed(rt.alloc(), 23, 10_000) == Said::Unsat);
+    assert!(rt; said_of_seed(&rt, rt.alloc(), 23, 10_000) == Said::Unsat);
 }

@@ -1,5 +1,6 @@
 // A budget suffices where it does for one of the two orders in which atoms are decided.
-use crate::watched::asked::{Said, said_of};
+use crate::summaries::Said;
+use crate::watched::asked::said_of;
 use std::alloc::Global;
 
 // Four pigeons in three holes: 44 lines by number, and 51 where the most active atoms are decided first.

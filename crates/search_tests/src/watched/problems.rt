@@ -1,11 +1,7 @@
 // Problems as text.
-ghost use Rattle.std.specs.Prelude.{◌≡◌};
-ghost use Rattle.lin_rows.specs.Numbers.{in_range};
-ghost use Rattle.lin_rows.specs.Rows.{all_in_range};
-
+use crate::solvers::asked::row_with;
 use items::{Items, or_drop};
-use lin_rows::number::is_in_range;
-use lin_rows::{Row, RowTerm, row_of};
+use lin_rows::{Row, RowTerm};
 use proof_lines::{AtomKind, Clause, Lit, Problem};
 use std::alloc::{AllocError, Global};
 
@@ -31,22 +27,6 @@ fn clause(alloc: Global, part: &str) -> Result<Clause, AllocError> {
         }
     }
     Ok(clause)
-}
-
-fn all_fit(terms: &[RowTerm]) -> bool
-    ensures { result ≡ all_in_range terms.now }
-{
-    terms.iter().all(|term| is_in_range(term.coef))
-}
-
-fn row_with(alloc: Global, terms: &[RowTerm], bound: i128) -> Result<Row, AllocError> {
-    if !all_fit(terms) || !is_in_range(bound) {
-        return Err(AllocError);
-    }
-    match row_of(alloc, terms, bound) {
-        Ok(row) => Ok(row),
-        Err(_) => Err(AllocError),
-    }
 }
 
 fn terms(alloc: Global, words: &str) -> Result<Items<RowTerm>, AllocError> {

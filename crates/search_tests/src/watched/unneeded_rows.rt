@@ -1,5 +1,6 @@
 // Problems whose rows contradict each other, or lie beyond the range of a state, though no clause needs them all.
-use crate::watched::asked::{Said, said_of};
+use crate::summaries::Said;
+use crate::watched::asked::check;
 
 // The first plain atom makes the first clause true. The second names a row and its opposite, and need not be true.
 const NAMED: &str = "4 1:1 <= 0;-1 <= -1;3 4;-4 1;-4 2";
@@ -18,18 +19,18 @@ const NEEDED: &str = "7 1:1 <= 0;-1 <= -1;1 <= 5;4 5;-5 3;7 6;7 -6;-7 1;-7 2";
 
 #[test]
 fn rows_that_no_clause_needs_may_contradict_others(rt: HostRuntime) {
-    assert!(rt; said_of(rt.alloc(), NAMED, 0) == Said::Sat);
-    assert!(rt; said_of(rt.alloc(), NESTED, 0) == Said::Sat);
-    assert!(rt; said_of(rt.alloc(), SHARED, 0) == Said::Sat);
+    check(&rt, rt.alloc(), NAMED, 0, Said::Sat);
+    check(&rt, rt.alloc(), NESTED, 0, Said::Sat);
+    check(&rt, rt.alloc(), SHARED, 0, Said::Sat);
 }
 
 #[test]
 fn rows_that_no_clause_needs_may_lie_beyond_the_range(rt: HostRuntime) {
-    assert!(rt; said_of(rt.alloc(), FAR, 0) == Said::Sat);
+    check(&rt, rt.alloc(), FAR, 0, Said::Sat);
 }
 
 #[test]
 fn rows_that_clauses_need_are_refuted(rt: HostRuntime) {
-    assert!(rt; said_of(rt.alloc(), NEEDED, 0) == Said::Nothing);
-    assert!(rt; said_of(rt.alloc(), NEEDED, 16) == Said::Unsat);
+    check(&rt, rt.alloc(), NEEDED, 0, Said::Nothing);
+    check(&rt, rt.alloc(), NEEDED, 16, Said::Unsat);
 }
