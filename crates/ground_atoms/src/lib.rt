@@ -37,5 +37,5 @@ pub use formula::{Agreement, GroundFormula, Places};
 pub use keyed_row::KeyedRow;
 pub use laws::law_making_is_numbering;
 pub use part::SumPart;
-pub use rows::at_most;
+pub use rows::{at_most, at_most_name};
 pub use tuple::Tuple;

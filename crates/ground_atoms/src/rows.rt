@@ -33,10 +33,22 @@ pub fn at_most(
     ensures stay { NumbersStay atoms.old atoms.new }
 {
     let bound = bound_of(left, right, more)?;
-    let mut terms = Vec::new(alloc);
+    let mut terms = Vec::with_capacity(alloc, left.len().saturating_add(right.len()))?;
     add_terms(atoms, alloc, true, left, &mut terms)?;
     add_terms(atoms, alloc, false, right, &mut terms)?;
     let row = summed(alloc, &terms, bound)?;
+    row_formula(atoms, row)
+}
+
+/// Says that one integer name is at most another one, by their numbers.
+pub fn at_most_name(
+    atoms: &mut Atoms,
+    alloc: Global,
+    first: u32,
+    second: u32,
+) -> Result<GroundFormula, AllocError> {
+    let terms = [term_of(true, first, 1), term_of(false, second, 1)];
+    let row = summed(alloc, &terms, 0)?;
     row_formula(atoms, row)
 }
 

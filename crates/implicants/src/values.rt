@@ -22,7 +22,7 @@ fn values_on(alloc: Global, trail: &Trail, atoms: usize) -> Result<Vec<bool>, Al
     let Ok(many) = u32::try_from(atoms) else {
         return Err(AllocError);
     };
-    let mut values = Vec::new(alloc);
+    let mut values = Vec::with_capacity(alloc, atoms)?;
     for atom in 0..many {
         values.push(trail.holds(Lit {
             atom,
@@ -33,11 +33,7 @@ fn values_on(alloc: Global, trail: &Trail, atoms: usize) -> Result<Vec<bool>, Al
 }
 
 fn none_free(alloc: Global, atoms: usize) -> Result<Vec<bool>, AllocError> {
-    let mut free = Vec::new(alloc);
-    for _ in 0..atoms {
-        free.push(false)?;
-    }
-    Ok(free)
+    vec![in alloc; false; atoms]
 }
 
 fn put(free: &mut Vec<bool>, atom: u32, value: bool) {

@@ -10,14 +10,12 @@ ghost use Rattle.ground_numbers.specs.Numbered.{known, literal, negation, conjun
 ghost use Rattle.ground_numbers.specs.Numbers.{has_atom, number_of};
 ghost use Rattle.ground_atoms.specs.Known.{know_atom};
 ghost use Rattle.ground_atoms.specs.Making.{make};
-ghost use Rattle.ground_atoms.specs.Symbols.{parts_of};
 ghost use Rattle.ground_atoms.specs.declared.formula.Agreement.TheVariants as agreements;
 ghost use Rattle.ground_atoms.specs.Formulas.{form_of, readings_agree};
 ghost use Rattle.stage_defs.specs.Settings.{IsMade};
 ghost use Rattle.instances.specs.Congruent.{premise_of, conclusion_of};
 
-use ground_atoms::{Agreement, Atom, Atoms, GroundFormula, Places, SumPart, Tuple, at_most};
-use ground_groups::differing::sum;
+use ground_atoms::{Agreement, Atom, Atoms, GroundFormula, IntName, Places, Tuple, at_most_name};
 use ground_groups::parts::{all_of, join_lengths, join_same};
 use spec_core::{Spec, Thing};
 use stage_defs::{both, either, negated, same_const};
@@ -201,20 +199,14 @@ fn both_rows(
     }
 }
 
-// Two sums are equal: the one is at most the other, and the other at most the one.
-fn sums_same(
-    atoms: &mut Atoms,
-    alloc: Global,
-    left: &[SumPart],
-    right: &[SumPart],
-) -> Result<Conclusion, AllocError>
-    ensures { IfOk result
-        (λ c. make atoms.old (symbols.equal (parts_of left.now) (parts_of right.now))
-        ≡ record { known = atoms.new; form = conclusion_of c }) }
-{
-    let up = at_most(atoms, alloc, left, right, 0)?;
-    let down = at_most(atoms, alloc, right, left, 0)?;
-    both_rows(alloc, up, down)
+// The name of a counter's reading at the entry.
+fn count_at(alloc: Global, counter: u8, key: &[u32]) -> Result<IntName, AllocError> {
+    Ok(IntName::Count {
+        stage: 0,
+        part: 0,
+        counter,
+        key: Tuple::of(alloc, key)?,
+    })
 }
 
 // A counter is the same at both tuples.
@@ -230,9 +222,12 @@ fn counter_same(
         (λ c. make atoms.old (equality.readings_same (thing.Counter counter) left.now right.now)
         ≡ record { known = atoms.new; form = conclusion_of c }) }
 {
-    let first = sum(alloc, spec, 0, counter, left)?;
-    let second = sum(alloc, spec, 0, counter, right)?;
-    sums_same(atoms, alloc, first.as_slice(), second.as_slice())
+    let _spec = spec;
+    let first = atoms.int_of(count_at(alloc, counter, left)?)?;
+    let second = atoms.int_of(count_at(alloc, counter, right)?)?;
+    let up = at_most_name(atoms, alloc, first, second)?;
+    let down = at_most_name(atoms, alloc, second, first)?;
+    both_rows(alloc, up, down)
 }
 
 // A thing reads the same at two tuples at the entry.

@@ -1,5 +1,5 @@
 // Equality goes over each of three constants of one sort to the other two.
-ghost use Rattle.std.specs.Prelude.{◌≡◌, ◌+◌, ◌≤◌, ◌<◌, ◌∷◌, [], true, length, drop, slice_index};
+ghost use Rattle.std.specs.Prelude.{◌≡◌, ◌+◌, ◌≤◌, ◌<◌, true, length, drop, slice_index};
 ghost use Rattle.std.specs.Prelude.{IfOk};
 ghost use Rattle.std.specs.List.{flat_map};
 ghost use Rattle.ground_problem.specs.Constants.{of_sort};
@@ -7,7 +7,6 @@ ghost use Rattle.ground_problem.specs.Symbols as symbols;
 ghost use Rattle.ground_problem.specs.Equality as equality;
 ghost use Rattle.ground_numbers.specs.Numbered.{literal};
 ghost use Rattle.ground_atoms.specs.Making.{make};
-ghost use Rattle.stage_defs.specs.Settings.{IsMade};
 ghost use Rattle.ground_groups.specs.Limited.{Appends};
 
 use ground_atoms::{Atom, Atoms, GroundFormula};
@@ -26,72 +25,31 @@ fn number_of(atoms: &mut Atoms, pair: (u32, u32)) -> Result<u32, AllocError>
     atoms.number_of(Atom::Same(lesser, greater))
 }
 
-// Where the first two pairs are equal, so is the third one.
-fn implied(
-    atoms: &mut Atoms,
-    first: (u32, u32),
-    second: (u32, u32),
-    third: (u32, u32),
-) -> Result<GroundFormula, AllocError>
-    ensures { IfOk result
-        (λ made. IsMade atoms.old
-        (symbols.either
-        (symbols.negated
-        (symbols.both (symbols.same first.0 first.1) (symbols.same second.0 second.1)))
-        (symbols.same third.0 third.1))
-        atoms.new made) }
-{
-    let first = number_of(atoms, first)?;
-    let second = number_of(atoms, second)?;
-    let third = number_of(atoms, third)?;
-    Ok(GroundFormula::Implied(first, second, third))
-}
-
-// Appends it.
-fn add_implied(
+// Appends that where the first two equalities are true, so is the third one.
+fn push_implied(
     grounding: &mut Grounding,
-    first: (u32, u32),
-    second: (u32, u32),
-    third: (u32, u32),
-) -> Result<(), GroundRefused>
-    ensures { Appends result grounding.old
-        (symbols.either
-        (symbols.negated
-        (symbols.both (symbols.same first.0 first.1) (symbols.same second.0 second.1)))
-        (symbols.same third.0 third.1) ∷ [])
-        grounding.new }
-{
+    first: u32,
+    second: u32,
+    third: u32,
+) -> Result<(), GroundRefused> {
     has_room(grounding)?;
-    let made = implied(&mut grounding.atoms, first, second, third)?;
-    grounding.formulas.push(made)?;
+    grounding
+        .formulas
+        .push(GroundFormula::Implied(first, second, third))?;
     Ok(())
-}
-
-// Appends that equality goes over the first and over the last of three constants.
-fn add_over_ends(grounding: &mut Grounding, a: u32, b: u32, c: u32) -> Result<(), GroundRefused>
-    ensures { Appends result grounding.old
-        (symbols.either (symbols.negated (symbols.both (symbols.same a b) (symbols.same a c)))
-        (symbols.same b c) ∷ symbols.either
-        (symbols.negated (symbols.both (symbols.same a c) (symbols.same b c))) (symbols.same a b) ∷
-        [])
-        grounding.new }
-{
-    match add_implied(grounding, (a, b), (a, c), (b, c)) {
-        Ok(()) => {}
-        Err(refused) => return Err(refused),
-    }
-    add_implied(grounding, (a, c), (b, c), (a, b))
 }
 
 // Appends that equality goes over each of three constants.
 fn add_three(grounding: &mut Grounding, a: u32, b: u32, c: u32) -> Result<(), GroundRefused>
     ensures { Appends result grounding.old (equality.three_agree a b c) grounding.new }
 {
-    match add_implied(grounding, (a, b), (b, c), (a, c)) {
-        Ok(()) => {}
-        Err(refused) => return Err(refused),
-    }
-    add_over_ends(grounding, a, b, c)
+    has_room(grounding)?;
+    let first = number_of(&mut grounding.atoms, (a, b))?;
+    let second = number_of(&mut grounding.atoms, (b, c))?;
+    let third = number_of(&mut grounding.atoms, (a, c))?;
+    push_implied(grounding, first, second, third)?;
+    push_implied(grounding, first, third, second)?;
+    push_implied(grounding, third, second, first)
 }
 
 // The same for two constants and each of these.

@@ -5,7 +5,7 @@
 // come later, where an interpretation makes them false.
 use clausify::KeptClauses;
 use ground_atoms::{Atom, Atoms};
-use needed_clauses::parts::{NOWHERE, number_of, place_of};
+use needed_clauses::parts::{NOWHERE, place_of};
 use proof_lines::Lit;
 use std::alloc::{AllocError, Global};
 
@@ -25,17 +25,9 @@ fn lits_at(kept: &KeptClauses, place: u32) -> &[Lit] {
     }
 }
 
-// Which of the first so many atoms are among these, or say that two constants are equal.
-fn allowed(
-    alloc: Global,
-    atoms: &Atoms,
-    many: u32,
-    named: &[u32],
-) -> Result<Vec<bool>, AllocError> {
-    let mut marks = Vec::with_capacity(alloc, many as usize)?;
-    for number in 0..many {
-        marks.push(matches!(atoms.atom(number), Some(Atom::Same(_, _))))?;
-    }
+// Which of the first so many atoms are among these.
+fn allowed(alloc: Global, many: u32, named: &[u32]) -> Result<Vec<bool>, AllocError> {
+    let mut marks = vec![in alloc; false; many as usize]?;
     for number in named {
         if let Some(mark) = marks.as_mut_slice().get_mut(*number as usize) {
             *mark = true;
@@ -44,9 +36,10 @@ fn allowed(
     Ok(marks)
 }
 
-// Whether the atoms that a clause names are allowed, or name parts.
-fn are_allowed(marks: &[bool], lits: &[Lit]) -> bool {
-    lits.iter().all(|lit| marks.get(lit.atom as usize).copied().unwrap_or(true))
+// Whether the atoms that a clause names are allowed, say that two constants are equal, or name parts.
+fn are_allowed(atoms: &Atoms, marks: &[bool], lits: &[Lit]) -> bool {
+    lits.iter().all(|lit| marks.get(lit.atom as usize).copied().unwrap_or(true)
+        || matches!(atoms.atom(lit.atom), Some(Atom::Same(_, _))))
 }
 
 // The places of the clauses that were found, and for each part the first of them that names it.
@@ -54,6 +47,7 @@ fn are_allowed(marks: &[bool], lits: &[Lit]) -> bool {
 struct Found {
     places: Vec<u32>,
     firsts: Vec<u32>,
+    parts: Vec<u32>,
 }
 
 impl Found {
@@ -61,22 +55,30 @@ impl Found {
         let mut firsts = Vec::new(alloc);
         firsts.resize(parts, NOWHERE)?;
         Ok(Found {
-            places: Vec::new(alloc),
+            places: Vec::with_capacity(alloc, 64)?,
             firsts,
+            parts: Vec::new(alloc),
         })
     }
 
     // Notes the parts that a clause names.
-    fn note_parts(&mut self, first: u32, place: u32, lits: &[Lit]) {
+    fn note_parts(&mut self, first: u32, place: u32, lits: &[Lit]) -> Result<(), AllocError> {
         for lit in lits {
-            let Some(part) = lit.atom.checked_sub(first) else {
+            let Some(name) = lit.atom.checked_sub(first) else {
                 continue;
             };
-            let part = part as usize;
-            if part < self.firsts.len() && place < self.firsts[part] {
+            let part = name as usize;
+            if part >= self.firsts.len() {
+                continue;
+            }
+            if self.firsts[part] == NOWHERE {
+                self.parts.push(name)?;
+            }
+            if place < self.firsts[part] {
                 self.firsts[part] = place;
             }
         }
+        Ok(())
     }
 
     // Adds the clause at a place, unless it was taken.
@@ -88,7 +90,7 @@ impl Found {
     ) -> Result<(), AllocError> {
         if take(taken, place as usize) {
             self.places.push(place)?;
-            self.note_parts(kept.first, place, lits_at(kept, place));
+            self.note_parts(kept.first, place, lits_at(kept, place))?;
         }
         Ok(())
     }
@@ -97,12 +99,13 @@ impl Found {
     fn add_allowed(
         &mut self,
         kept: &KeptClauses,
+        atoms: &Atoms,
         atom: u32,
         marks: &[bool],
         taken: &mut [bool],
     ) -> Result<(), AllocError> {
         for place in kept.by_atom.naming(atom) {
-            if are_allowed(marks, lits_at(kept, *place)) {
+            if are_allowed(atoms, marks, lits_at(kept, *place)) {
                 self.add(kept, *place, taken)?;
             }
         }
@@ -127,44 +130,50 @@ impl Found {
 
     // Adds the clauses that name a part behind the first that was found to name it: a part is named before what it is made of.
     fn add_of_parts(&mut self, kept: &KeptClauses, taken: &mut [bool]) -> Result<(), AllocError> {
-        for part in 0..kept.names {
+        for _ in 0..kept.names {
+            let Some(part) = self.parts.pop() else {
+                break;
+            };
             let from = place_of(self.firsts.as_slice(), part);
-            if from != NOWHERE {
-                self.add_naming(kept, kept.first.wrapping_add(part), from, taken)?;
-            }
+            self.add_naming(kept, kept.first.wrapping_add(part), from, taken)?;
         }
         Ok(())
     }
 
     // Takes the clauses of one literal on an atom, which come first of those that name it.
-    fn take_single(&self, kept: &KeptClauses, atom: u32, taken: &mut [bool]) {
+    fn take_single(
+        &mut self,
+        kept: &KeptClauses,
+        atom: u32,
+        taken: &mut [bool],
+    ) -> Result<(), AllocError> {
         for place in kept.by_atom.naming(atom) {
             if lits_at(kept, *place).len() > 1 {
                 break;
             }
-            take(taken, *place as usize);
+            if take(taken, *place as usize) {
+                self.places.push(*place)?;
+            }
         }
+        Ok(())
     }
 
     // Takes those on what the clauses name that were found.
-    fn take_all_single(&self, kept: &KeptClauses, taken: &mut [bool]) {
-        for place in self.places.iter() {
-            for lit in lits_at(kept, *place) {
-                self.take_single(kept, lit.atom, taken);
+    fn take_all_single(
+        &mut self,
+        kept: &KeptClauses,
+        taken: &mut [bool],
+    ) -> Result<(), AllocError> {
+        for found in 0..self.places.len() {
+            let Some(place) = self.places.get(found).copied() else {
+                break;
+            };
+            for lit in lits_at(kept, place) {
+                self.take_single(kept, lit.atom, taken)?;
             }
         }
+        Ok(())
     }
-}
-
-// The places of what was taken.
-fn places_taken(alloc: Global, taken: &[bool], many: usize) -> Result<Vec<u32>, AllocError> {
-    let mut places = Vec::with_capacity(alloc, many)?;
-    for (place, is_taken) in taken.iter().enumerate() {
-        if *is_taken {
-            places.push(number_of(place))?;
-        }
-    }
-    Ok(places)
 }
 
 /// The places of these clauses, where the atoms are these, in rising order. They are taken; none was before.
@@ -175,16 +184,22 @@ pub(crate) fn kept_beside(
     named: &[u32],
     taken: &mut [bool],
 ) -> Result<Vec<u32>, AllocError> {
-    let marks = allowed(alloc, atoms, kept.first, named)?;
+    let marks = allowed(alloc, kept.first, named)?;
     let mut found = Found::new(alloc, kept.names as usize)?;
     for atom in named {
         if *atom < kept.first {
-            found.add_allowed(kept, *atom, marks.as_slice(), taken)?;
+            found.add_allowed(kept, atoms, *atom, marks.as_slice(), taken)?;
         }
     }
     found.add_of_parts(kept, taken)?;
-    found.take_all_single(kept, taken);
-    let many = found.places.len();
-    drop(found);
-    places_taken(alloc, taken, many)
+    found.take_all_single(kept, taken)?;
+    let Found {
+        mut places,
+        firsts,
+        parts,
+    } = found;
+    drop(firsts);
+    drop(parts);
+    places.sort_unstable();
+    Ok(places)
 }

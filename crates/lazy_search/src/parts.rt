@@ -10,7 +10,7 @@ use crate::testing::{Picks, Proposed, is_part};
 use ground_atoms::{Atom, Atoms};
 use items::{Items, or_drop};
 use lazy_ground::LazyGround;
-use needed_clauses::parts::{mark, no_places, number_marked, placed};
+use needed_clauses::parts::{NOWHERE, no_places, number_of, placed};
 use proof_lines::{AtomKind, Clause, Lit, Problem};
 use std::alloc::{AllocError, Global};
 
@@ -32,7 +32,7 @@ fn kind_at(alloc: Global, atoms: &Atoms, number: u32) -> Result<AtomKind, AllocE
 
 // What the atoms with these numbers stand for.
 fn kinds_of(alloc: Global, atoms: &Atoms, numbers: &[u32]) -> Result<Items<AtomKind>, AllocError> {
-    let mut kinds = Items::new(alloc);
+    let mut kinds = Items::from_vec(Vec::with_capacity(alloc, numbers.len())?);
     for number in numbers {
         kinds.push(kind_at(alloc, atoms, *number)?)?;
     }
@@ -88,19 +88,42 @@ pub(crate) fn count_named(chosen: &Chosen) -> usize {
     many
 }
 
-// The places of the atoms that these clauses and these literals name, which aren't numbered yet.
+// Marks what a clause names, and lists of it what wasn't marked.
+fn mark_new(places: &mut [u32], lits: &[Lit], atoms: &mut Vec<u32>) -> Result<(), AllocError> {
+    for lit in lits {
+        let atom = lit.atom as usize;
+        if atom < places.len() && places[atom] == NOWHERE {
+            places[atom] = 0;
+            atoms.push(lit.atom)?;
+        }
+    }
+    Ok(())
+}
+
+// The atoms that these clauses and these literals name, in rising order. They are marked.
 fn marked(
     alloc: Global,
     chosen: &Chosen,
     picks: &[u32],
     others: &[Lit],
+    places: &mut [u32],
 ) -> Result<Vec<u32>, AllocError> {
-    let mut places = no_places(alloc, count_named(chosen))?;
+    let mut atoms = Vec::with_capacity(alloc, 64)?;
     for pick in picks {
-        mark(places.as_mut_slice(), lits_at(chosen, *pick));
+        mark_new(places, lits_at(chosen, *pick), &mut atoms)?;
     }
-    mark(places.as_mut_slice(), others);
-    Ok(places)
+    mark_new(places, others, &mut atoms)?;
+    atoms.sort_unstable();
+    Ok(atoms)
+}
+
+// Gives the atoms their places, in their order.
+fn number(places: &mut [u32], atoms: &[u32]) {
+    for (place, atom) in atoms.iter().enumerate() {
+        if (*atom as usize) < places.len() {
+            places[*atom as usize] = number_of(place);
+        }
+    }
 }
 
 /// The part of a whole problem that has the clauses that were picked, and the atoms of some other literals too; nothing where they don't
@@ -118,8 +141,10 @@ pub fn part_of(
     ensures { IfOk result (λ found. IfSome found (λ part. IsPart part.problem
         (lazy_problem ground.now) part.picks.numbers.items part.atoms.items)) }
 {
-    let mut places = marked(alloc, chosen, picks.places.as_slice(), others)?;
-    let atoms = number_marked(alloc, places.as_mut_slice())?;
+    let mut places = no_places(alloc, count_named(chosen))?;
+    let picked = picks.places.as_slice();
+    let atoms = marked(alloc, chosen, picked, others, places.as_mut_slice())?;
+    number(places.as_mut_slice(), atoms.as_slice());
     let own = problem_of(
         alloc,
         ground,

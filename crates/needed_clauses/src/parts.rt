@@ -53,7 +53,7 @@ pub fn mark(places: &mut [u32], lits: &[Lit]) {
 
 /// Gives the atoms that are marked their places, in the order of their numbers, and lists them.
 pub fn number_marked(alloc: Global, places: &mut [u32]) -> Result<Vec<u32>, AllocError> {
-    let mut atoms = Vec::new(alloc);
+    let mut atoms = Vec::with_capacity(alloc, 64)?;
     for atom in 0..places.len() {
         if atom < places.len() && places[atom] != NOWHERE {
             places[atom] = number_of(atoms.len());

@@ -33,9 +33,10 @@ impl SearchState {
             drop(grown);
             return Err(AllocError);
         }
+        let trail = Trail::with_room(alloc, grown.atoms.len())?;
         Ok(SearchState {
             grown,
-            trail: Trail::new(alloc),
+            trail,
             log: Items::new(alloc),
         })
     }

@@ -83,6 +83,19 @@ impl Trail {
         }
     }
 
+    /// The same, with room for one literal of each of so many atoms.
+    pub fn with_room(alloc: Global, atoms: usize) -> Result<Trail, AllocError> {
+        let entries = Vec::with_capacity(alloc, atoms)?;
+        let positive = vec![in alloc; None; atoms]?;
+        let negative = vec![in alloc; None; atoms]?;
+        Ok(Trail {
+            entries,
+            positive,
+            negative,
+            decisions: Vec::new(alloc),
+        })
+    }
+
     /// Adds an entry, which is the newest then. A refused one leaves the trail as it was.
     pub fn push(&mut self, entry: Entry) -> Result<(), AllocError>
         ensures ok { OnOk result (self.new ≡ entry ∷ self.old) }

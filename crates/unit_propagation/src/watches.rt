@@ -7,7 +7,7 @@ ghost use Rattle.unit_propagation.specs.Watches.{is_among, list_at, code, pair_a
 use crate::lists::{code, enter};
 use crate::looking::{ClauseStatus, Watched, look_at, pair_of, rests};
 use items::{Items, ShortList};
-use proof_lines::Lit;
+use proof_lines::{Lit, Problem};
 use sat_core::Trail;
 use std::alloc::{AllocError, Global};
 
@@ -75,6 +75,12 @@ impl Watches {
             lists: Vec::new(alloc),
             units: Items::new(alloc),
         }
+    }
+
+    /// Makes room for the clauses and the atoms of a problem.
+    pub(crate) fn make_room(&mut self, problem: &Problem) -> Result<(), AllocError> {
+        self.pairs.reserve(problem.clauses.len())?;
+        self.lists.reserve(problem.atoms.len().saturating_mul(2))
     }
 
     // Lets a clause watch two literals in place of those that it watched.

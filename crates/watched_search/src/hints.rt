@@ -80,6 +80,8 @@ impl Hints {
             self.count(problem)?;
         }
         self.clauses = problem.clauses.len();
+        self.assigned.reserve(problem.atoms.len())?;
+        self.values.resize(problem.atoms.len(), None)?;
         self.cut(problem, trail)
     }
 
