@@ -1,8 +1,7 @@
 // The bank's own code for the requires lines of a call: it tests them by hand.
 
 ghost use Rattle.std.specs.Prelude.{◌≡◌, ◌<◌, ◌^◌, int_lt, [], ◌∷◌};
-ghost use Rattle.spec_core.specs.declared.world.World.{World as WorldValue};
-ghost use Rattle.spec_core.specs.State.{reads};
+ghost use Rattle.spec_core.specs.{declared.world.World.{World as WorldValue}, State.{reads}};
 ghost use Rattle.replica_host.specs.Native.{IsGuard};
 ghost use Rattle.bank_host.specs.Bank.{bank, balance};
 ghost use Rattle.bank_host.specs.Calls.{FitIn, Fit, account_of as account_of_call};

@@ -2,12 +2,10 @@
 
 ghost use Rattle.std.specs.Prelude.{◌≡◌, ◌≤◌, true, Some, Ok, length, IfOk};
 ghost use Rattle.spec_core.specs.Fits.{world_fits};
-ghost use Rattle.schedule_json.specs.Fitting.{IsScheduleOf};
-ghost use Rattle.schedule_json.specs.Texts.{most_schedule_bytes};
+ghost use Rattle.schedule_json.specs.{Fitting.{IsScheduleOf}, Texts.{most_schedule_bytes}};
 ghost use Rattle.replay_text.specs.Text.{replay_text, replay_status};
 ghost use Rattle.simulate_text.specs.Text.{simulate_text, simulate_status};
-ghost use Rattle.bank_host.specs.Bank.{bank};
-ghost use Rattle.bank_host.specs.Running.{IsAnswer};
+ghost use Rattle.bank_host.specs.{Bank.{bank}, Running.{IsAnswer}};
 ghost use Rattle.bank_host.specs.Carried.{status_read, text_read};
 
 use crate::effect::BankCode;

@@ -2,9 +2,7 @@
 
 ghost use Rattle.std.specs.Prelude.{◌≡◌, ◌<◌, ℕ, List, true, Some, map, string_bytes};
 ghost use Rattle.std.specs.Option.{is_some};
-ghost use Rattle.byte_ports.specs.Faults.{IsFault};
-ghost use Rattle.byte_ports.specs.Ports.{port_of};
-ghost use Rattle.byte_ports.specs.Ending.{EndsIn};
+ghost use Rattle.byte_ports.specs.{Faults.{IsFault}, Ports.{port_of}, Ending.{EndsIn}};
 ghost use Rattle.byte_ports.specs.Told.{Tells, IsReadWithin};
 ghost use Rattle.schedule_json.specs.Texts.{most_schedule_bytes};
 ghost use Rattle.bank_host.specs.Running.{command_of as asked_of, IsAnswer};

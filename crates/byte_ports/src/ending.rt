@@ -1,7 +1,6 @@
 // Writing the text of an answer, and the status that this ends with.
 ghost use Rattle.std.specs.Prelude.{◌≡◌, ◌≢◌, ◌<◌};
-ghost use Rattle.byte_ports.specs.Ports.{port_of};
-ghost use Rattle.byte_ports.specs.Ending.{IsOne, IsFrontOf, Ends};
+ghost use Rattle.byte_ports.specs.{Ports.{port_of}, Ending.{IsOne, IsFrontOf, Ends}};
 
 use crate::sink::{Sink, WriteRefused, write_all};
 use crate::status::WRITE_FAULT;

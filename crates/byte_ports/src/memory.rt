@@ -6,8 +6,7 @@
 ghost use Rattle.std.specs.Prelude.{◌≡◌, ◌-◌, ◌≤◌, ◌<◌, [], if◌then◌else◌, length, take, min, IfOk};
 ghost use Rattle.std.specs.Io.{ReadsAtMost, WritesAtMost};
 ghost use Rattle.std.specs.Io.KnownBytes.{ReadConsumes, WriteAppends};
-ghost use Rattle.byte_ports.specs.Faults.{IsFault};
-ghost use Rattle.byte_ports.specs.Memory.{fails_at};
+ghost use Rattle.byte_ports.specs.{Faults.{IsFault}, Memory.{fails_at}};
 
 use crate::{Failed, Sink, Source, count_up};
 use std::alloc::{AllocError, Global};

@@ -3,8 +3,7 @@
 // `read_up_to` asks for one byte more than may still come, so that a source with too many bytes is found without a read past
 // them: each read but the last gives at least one byte, which bounds their number by the limit and one.
 ghost use Rattle.std.specs.Prelude.{◌≡◌, ℕ, ◌+◌, ◌<◌, ◌≤◌, List, ◌++◌, length, Option, IfSome};
-ghost use Rattle.std.specs.Prelude.{IfOk, OnOk, OnErr, IsErrOf, vec_len};
-ghost use Rattle.std.specs.Io.{ReadsAtMost};
+ghost use Rattle.std.specs.{Prelude.{IfOk, OnOk, OnErr, IsErrOf, vec_len}, Io.{ReadsAtMost}};
 ghost use Rattle.std.specs.Io.KnownBytes.{ReadConsumes, Consumes, IsAtEnd};
 ghost use Rattle.byte_ports.specs.Faults.{IsFault};
 

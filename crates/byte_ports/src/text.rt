@@ -1,7 +1,6 @@
 // Writing a text that was made in memory.
 ghost use Rattle.std.specs.Prelude.{◌≡◌, ◌≤◌, IfErr, OnErr};
-ghost use Rattle.byte_ports.specs.Faults.{IsFault};
-ghost use Rattle.byte_ports.specs.Written.{IsText};
+ghost use Rattle.byte_ports.specs.{Faults.{IsFault}, Written.{IsText}};
 ghost use Rattle.byte_ports.specs.declared.text.WriteOut.TheVariants.{Fault};
 
 use crate::sink::{Sink, WriteRefused, write_all};

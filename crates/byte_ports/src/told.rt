@@ -1,10 +1,8 @@
 // What is answered to the bytes that a source gives.
 ghost use Rattle.std.specs.Prelude.{◌≡◌, ℕ, List, ◌<◌, ◌≤◌, length, Ok, IfOk, OnOk, IsErrOf};
 ghost use Rattle.std.specs.Fn.{FnReturnsAt};
-ghost use Rattle.byte_ports.specs.Faults.{IsFault};
-ghost use Rattle.byte_ports.specs.Ports.{port_of};
-ghost use Rattle.byte_ports.specs.declared.ending.Answer.{Answer};
-ghost use Rattle.byte_ports.specs.Ending.{EndsIn};
+ghost use Rattle.byte_ports.specs.{Faults.{IsFault}, Ports.{port_of}};
+ghost use Rattle.byte_ports.specs.{declared.ending.Answer.{Answer}, Ending.{EndsIn}};
 ghost use Rattle.byte_ports.specs.Told.{Tells, IsReadWithin, IsAnswerWithin, IsAnswerFrom};
 
 use crate::ending::{Answer, write_answer};

@@ -1,11 +1,9 @@
 // The report of a specification, written block by block.
 ghost use Rattle.std.specs.Prelude.{◌≡◌, ◌<◌, ◌≤◌, ◌^◌, IfErr};
-ghost use Rattle.byte_ports.specs.Faults.{IsFault};
-ghost use Rattle.byte_ports.specs.Written.{IsText};
+ghost use Rattle.byte_ports.specs.{Faults.{IsFault}, Written.{IsText}};
 ghost use Rattle.byte_ports.specs.declared.text.WriteOut.TheVariants.{Fault};
 ghost use Rattle.obligation_list.specs.Obligations.{IsObligation};
-ghost use Rattle.proof_report.specs.Verdicts.{obligation_count};
-ghost use Rattle.proof_report.specs.Texts.{head_text, end_text};
+ghost use Rattle.proof_report.specs.{Verdicts.{obligation_count}, Texts.{head_text, end_text}};
 ghost use Rattle.proof_report.specs.Events.{told};
 ghost use Rattle.lazy_ground.specs.Cache.{AreKept};
 ghost use Rattle.check_run.specs.Reports.{written_version};

@@ -1,13 +1,11 @@
 // How many obligations of a specification are proved, refuted and undecided, without a report.
-ghost use Rattle.std.specs.Prelude.{◌≡◌, ◌<◌, ◌≤◌, ◌^◌, IfOk, length};
-ghost use Rattle.std.specs.List.{Contains};
+ghost use Rattle.std.specs.{Prelude.{◌≡◌, ◌<◌, ◌≤◌, ◌^◌, IfOk, length}, List.{Contains}};
 ghost use Rattle.spec_core.specs.Specification.{Specification};
 ghost use Rattle.obligation_list.specs.Obligations.{IsObligation};
 ghost use Rattle.obligation_list.specs.declared.obligation.Obligation.{Obligation};
 ghost use Rattle.proof_report.specs.Events.{told, with_verdict};
 ghost use Rattle.report_bytes.specs.Showing.{shown_verdict};
-ghost use Rattle.check_run.specs.Reports.{AreDecided, IsDecided};
-ghost use Rattle.check_run.specs.Checking.{IsCounted};
+ghost use Rattle.check_run.specs.{Reports.{AreDecided, IsDecided}, Checking.{IsCounted}};
 ghost use Rattle.lazy_ground.specs.Cache.{AreKept};
 
 use crate::deciding::decide_next;

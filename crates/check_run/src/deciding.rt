@@ -1,23 +1,19 @@
 // The verdict on an obligation.
 ghost use Rattle.std.specs.Prelude.{◌≡◌, ◌≤◌, ℕ, true, false, length, IfOk, IfSome};
-ghost use Rattle.obligation_list.specs.Obligations.{IsObligation};
-ghost use Rattle.obligation_list.specs.Refuting.{IsRefutation};
+ghost use Rattle.obligation_list.specs.{Obligations.{IsObligation}, Refuting.{IsRefutation}};
 ghost use Rattle.ground_numbers.specs.Problem.{problem_of};
 ghost use Rattle.sat_core.specs.Answers.{IsAnswer, IsModelOf};
 ghost use Rattle.proof_report.specs.declared.verdict.Cause.TheVariants.{Instances};
 ghost use Rattle.proof_report.specs.declared.verdict.Verdict.TheVariants.{Undecided};
 ghost use Rattle.report_bytes.specs.Showing.{shown_verdict, IsFit};
-ghost use Rattle.check_run.specs.Good.{HasFew, HasMany, IsGood};
-ghost use Rattle.check_run.specs.Fitting.{HasShown};
+ghost use Rattle.check_run.specs.{Good.{HasFew, HasMany, IsGood}, Fitting.{HasShown}};
 ghost use Rattle.check_run.specs.Decided.{IsDecided};
 ghost use Rattle.check_run.specs.Asked.{IsGoodFor, IsFitFor, HasDifferences, IsDecidedFor};
-ghost use Rattle.lazy_ground.specs.Cache.{AreKept};
-ghost use Rattle.diff_bounds.specs.Differences.{problem_fits};
 ghost use Rattle.check_run.specs.Reports.{written_version};
-ghost use Rattle.instances.specs.Ground.{IsGrounded};
-ghost use Rattle.instances.specs.Entry.{HasEntry};
-ghost use Rattle.lazy_ground.specs.Lazy.{IsLazyGround};
+ghost use Rattle.lazy_ground.specs.{Cache.{AreKept}, Lazy.{IsLazyGround}};
 ghost use Rattle.lazy_ground.specs.Kept.{IsKept, HasClauses, HasLazyKept};
+ghost use Rattle.diff_bounds.specs.Differences.{problem_fits};
+ghost use Rattle.instances.specs.{Ground.{IsGrounded}, Entry.{HasEntry}};
 
 use crate::fitting::numbered;
 use crate::question::Question;

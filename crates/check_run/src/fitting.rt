@@ -2,10 +2,8 @@
 //
 // A line names rows, clauses and members of lists by numbers below 2^32, and has whole numbers in the range of a row. The numbers of a
 // log that the kernel accepts are so, and a list in memory may still be longer; such a list can't be numbered.
-ghost use Rattle.std.specs.Prelude.{◌≡◌, nat_le, true, false, IfOk};
-ghost use Rattle.std.specs.List.{list_all};
-ghost use Rattle.report_lines.specs.Formats.{counted};
-ghost use Rattle.report_lines.specs.Fields.{most_count, integer_format};
+ghost use Rattle.std.specs.{Prelude.{◌≡◌, nat_le, true, false, IfOk}, List.{list_all}};
+ghost use Rattle.report_lines.specs.{Formats.{counted}, Fields.{most_count, integer_format}};
 ghost use Rattle.report_lines.specs.Entries.{literal_format, step_format};
 ghost use Rattle.report_lines.specs.Logs.{used_words, log_format};
 ghost use Rattle.report_lines.specs.Evidence.{rows_format, range_format};

@@ -1,23 +1,20 @@
 // What good verdicts say of a specification.
 
 ghost use Rattle.std.specs.Prelude.{◌≡◌, ◌≤◌, ℕ, true, List, None};
-ghost use Rattle.spec_core.specs.Specification.{Specification};
-ghost use Rattle.spec_core.specs.Typed.{is_specification};
+ghost use Rattle.spec_core.specs.{Specification.{Specification}, Typed.{is_specification}};
 ghost use Rattle.obligation_list.specs.declared.obligation.Obligation.{Obligation};
 ghost use Rattle.obligation_list.specs.Obligations.{obligations_of};
 ghost use Rattle.obligation_list.specs.Breaking.{Breaks, Holds, Safe};
 ghost use Rattle.executions.specs.Convergence.{Converges};
 ghost use Rattle.report_lines.specs.declared.head.Outcome.TheVariants.{Accepted};
+ghost use Rattle.report_lines.specs.declared.head.Tally.{Tally};
 ghost use Rattle.proof_lines.specs.declared.line.Line.{Line};
 ghost use Rattle.proof_report.specs.declared.place.PartialWitness.{PartialWitness};
 ghost use Rattle.proof_report.specs.Verdicts.{VerdictForm, proved, refuted, is_report};
 ghost use Rattle.proof_report.specs.Events.{outcome_of};
-ghost use Rattle.report_lines.specs.declared.head.Tally.{Tally};
-ghost use Rattle.report_bytes.specs.Bytes.{report_bytes};
-ghost use Rattle.report_bytes.specs.Showing.{report_on};
+ghost use Rattle.report_bytes.specs.{Bytes.{report_bytes}, Showing.{report_on}};
 ghost use Rattle.report_bytes.specs.Reading.{first_fault};
-ghost use Rattle.check_run.specs.Shown.{listing_of};
-ghost use Rattle.check_run.specs.Good.{IsGood, AreGood};
+ghost use Rattle.check_run.specs.{Shown.{listing_of}, Good.{IsGood, AreGood}};
 ghost use Rattle.check_run.specs.Reports.{tally_of, written_version, IsChecked};
 
 use ground_numbers::{law_obligation_fits, law_refuted_problem_holds};

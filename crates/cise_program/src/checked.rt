@@ -5,8 +5,7 @@
 // reads from a witness is the one in which the witness breaks its obligation.
 
 ghost use Rattle.std.specs.Prelude.{◌≡◌, ◌≤◌, ℕ, true, List, length, Result, Ok};
-ghost use Rattle.spec_core.specs.Specification.{Specification};
-ghost use Rattle.spec_core.specs.Typed.{is_specification};
+ghost use Rattle.spec_core.specs.{Specification.{Specification}, Typed.{is_specification}};
 ghost use Rattle.report_lines.specs.declared.head.Tally.{Tally};
 ghost use Rattle.check_run.specs.Reports.{IsChecked};
 ghost use Rattle.report_verifier.specs.Verified.{most_report_bytes, IsVerified, IsOnAll};

@@ -1,9 +1,7 @@
 // The program but for its edge: from words, sources and a sink to a status.
 ghost use Rattle.std.specs.Prelude.{◌≡◌, ◌⊎◌, ◌<◌, true, false, List, ℕ, Option, Some};
 ghost use Rattle.std.specs.Prelude.{IfSome};
-ghost use Rattle.byte_ports.specs.Faults.{IsFault};
-ghost use Rattle.byte_ports.specs.Ports.{port_of};
-ghost use Rattle.byte_ports.specs.Told.{Tells, IsReadWithin};
+ghost use Rattle.byte_ports.specs.{Faults.{IsFault}, Ports.{port_of}, Told.{Tells, IsReadWithin}};
 ghost use Rattle.byte_ports.specs.Ending.{Ends};
 ghost use Rattle.spec_trees.specs.Form.{tree_of};
 ghost use Rattle.spec_from_bytes.specs.Reading.{IsReadingOf};

@@ -4,10 +4,8 @@
 // clause is copied as it stands where it has no such atom, and else with the numbers of these raised. A problem that needs few of them finds
 // these by the atoms that they name, and has each by its place.
 ghost use Rattle.std.specs.Prelude.{◌≡◌, ◌≤◌, ◌+◌, ◌++◌, [], true, IfOk, IfSome, OnOk, List, Some};
-ghost use Rattle.std.specs.Prelude.{drop, map, slice_get, take};
-ghost use Rattle.std.specs.List.{list_all};
-ghost use Rattle.proof_lines.specs.Problems.{atoms_below};
-ghost use Rattle.proof_lines.specs.Clauses.{join};
+ghost use Rattle.std.specs.{Prelude.{drop, map, slice_get, take}, List.{list_all}};
+ghost use Rattle.proof_lines.specs.{Problems.{atoms_below}, Clauses.{join}};
 ghost use Rattle.ground_numbers.specs.Numbered.{Numbered, is_below};
 ghost use Rattle.ground_numbers.specs.Clauses.{all_clauses, all_names};
 ghost use Rattle.ground_atoms.specs.Formulas.{form_of};

@@ -2,10 +2,8 @@
 ghost use Rattle.std.specs.Prelude.{◌≡◌, ◌++◌, [], true, IfOk, IfSome, length, map, replicate, take};
 ghost use Rattle.std.specs.List.{list_all};
 ghost use Rattle.proof_lines.specs.Problems.{names_below};
-ghost use Rattle.ground_numbers.specs.Numbered.{is_below};
-ghost use Rattle.ground_numbers.specs.Problem.{kind_of, problem};
-ghost use Rattle.ground_atoms.specs.Symbols.{atom_of};
-ghost use Rattle.ground_atoms.specs.Formulas.{form_of};
+ghost use Rattle.ground_numbers.specs.{Numbered.{is_below}, Problem.{kind_of, problem}};
+ghost use Rattle.ground_atoms.specs.{Symbols.{atom_of}, Formulas.{form_of}};
 ghost use Rattle.clausify.specs.Kept.{AreClausesOf};
 
 use crate::kept::{KeptClauses, write_from};

@@ -1,8 +1,6 @@
 // Whether a name is in use.
 
-ghost use Rattle.std.specs.Prelude.{◌≡◌, ◌||◌};
-ghost use Rattle.std.specs.List.{list_any};
-ghost use Rattle.std.specs.Str.{bytes_eq};
+ghost use Rattle.std.specs.{Prelude.{◌≡◌, ◌||◌}, List.{list_any}, Str.{bytes_eq}};
 ghost use Rattle.spec_core.specs.State.{is_in};
 ghost use Rattle.conflict_variants.specs.Keyed.{names_in_use};
 

@@ -1,8 +1,7 @@
 // What the bare specification and the keyed ones keep.
 
 ghost use Rattle.std.specs.Prelude.{◌≡◌, ℕ, true};
-ghost use Rattle.spec_core.specs.Specification.{Specification};
-ghost use Rattle.spec_core.specs.Typed.{is_specification};
+ghost use Rattle.spec_core.specs.{Specification.{Specification}, Typed.{is_specification}};
 ghost use Rattle.conflict_variants.specs.Bare.{bare as bare_of};
 ghost use Rattle.conflict_variants.specs.Keyed.{CanBeKeyed, keyed as keyed_of};
 

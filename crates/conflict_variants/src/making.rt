@@ -2,8 +2,7 @@
 
 ghost use Rattle.std.specs.Prelude.{◌≡◌, [], ◌∷◌, map, get_or, IfOk, true};
 ghost use Rattle.spec_core.specs.Typed.{is_specification};
-ghost use Rattle.conflict_variants.specs.Takes.{with_takes};
-ghost use Rattle.conflict_variants.specs.Bare.{with_tokens, bare as bare_of};
+ghost use Rattle.conflict_variants.specs.{Takes.{with_takes}, Bare.{with_tokens, bare as bare_of}};
 ghost use Rattle.conflict_variants.specs.Keyed.{CanBeKeyed, first_name, second_name};
 ghost use Rattle.conflict_variants.specs.Keyed.{keyed_token as token_of};
 ghost use Rattle.conflict_variants.specs.Keyed.{keyed_pattern as pattern_of, keyed_rule as rule_of};

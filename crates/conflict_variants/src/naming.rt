@@ -1,7 +1,6 @@
 // The names of the two tokens.
 
-ghost use Rattle.std.specs.Prelude.{◌≡◌, ◌++◌, [], ◌∷◌, not, OnOk, IfOk};
-ghost use Rattle.std.specs.List.{filter};
+ghost use Rattle.std.specs.{Prelude.{◌≡◌, ◌++◌, [], ◌∷◌, not, OnOk, IfOk}, List.{filter}};
 ghost use Rattle.spec_core.specs.State.{is_in};
 ghost use Rattle.conflict_variants.specs.Keyed.{names_in_use, token_name as token_name_of};
 ghost use Rattle.conflict_variants.specs.Keyed.{unused_names as unused_names_of};

@@ -1,7 +1,6 @@
 // Worked examples of delivery orders and of the states after them.
 
-ghost use Rattle.std.specs.Prelude.{◌≡◌, ◌<◌, ◌↔◌, IsTrue, All};
-ghost use Rattle.std.specs.List.{list_all};
+ghost use Rattle.std.specs.{Prelude.{◌≡◌, ◌<◌, ◌↔◌, IsTrue, All}, List.{list_all}};
 ghost use Rattle.spec_core.specs.Fits.{call_fits};
 
 use crate::examples::deposits;

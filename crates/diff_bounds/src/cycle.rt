@@ -5,8 +5,7 @@
 // after the other from the last edge back, say at each stage that one place is at most so far above another, and in the end that 0 is
 // at most a negative number.
 ghost use Rattle.std.specs.Prelude.{◌≡◌, ◌-◌, ◌≤◌, ◌^◌, IfOk, None, length, drop, replicate};
-ghost use Rattle.diff_bounds.specs.Cycles.{IsCycle, first_steps};
-ghost use Rattle.diff_bounds.specs.States.{AreKept, IsLongNow};
+ghost use Rattle.diff_bounds.specs.{Cycles.{IsCycle, first_steps}, States.{AreKept, IsLongNow}};
 
 use crate::edges::Edge;
 use crate::walks::Walks;

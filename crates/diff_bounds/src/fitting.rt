@@ -1,15 +1,10 @@
 // Which problems fit the solver: the rows of their atoms and the negations of these are difference rows with near bounds. No row is
 // made for the test.
 ghost use Rattle.std.specs.Prelude.{◌≡◌, true, ℤ, pos, ◌+ℤ◌, ◌≢◌, unsigned_abs, List, map, Some};
-ghost use Rattle.std.specs.List.{list_all};
-ghost use Rattle.std.specs.Int.{int_div_euclid};
-ghost use Rattle.std.specs.Ordering.{int_eq};
-ghost use Rattle.lin_rows.specs.Numbers.{in_range};
-ghost use Rattle.lin_rows.specs.Rows.{Row as RowForm, rises_from, negated};
-ghost use Rattle.proof_lines.specs.declared.clause.Lit.{Lit as LitForm};
-ghost use Rattle.line_rows.specs.Evidence.{in_state};
-ghost use Rattle.proof_lines.specs.Problems.{PlainProblem};
-ghost use Rattle.line_rows.specs.Steps.{lit_row};
+ghost use Rattle.std.specs.{List.{list_all}, Int.{int_div_euclid}, Ordering.{int_eq}};
+ghost use Rattle.lin_rows.specs.{Numbers.{in_range}, Rows.{Row as RowForm, rises_from, negated}};
+ghost use Rattle.proof_lines.specs.{declared.clause.Lit.{Lit as LitForm}, Problems.{PlainProblem}};
+ghost use Rattle.line_rows.specs.{Evidence.{in_state}, Steps.{lit_row}};
 ghost use Rattle.diff_bounds.specs.Differences.{is_near, is_taken, are_taken, is_there_taken};
 ghost use Rattle.diff_bounds.specs.Differences.{row_fits, atom_fits, problem_fits};
 ghost use Rattle.diff_bounds.specs.Fitting.{is_simple};

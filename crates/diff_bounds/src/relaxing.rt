@@ -5,8 +5,7 @@
 // integer names all edges are settled, unless a walk became longer than that before. Such a walk comes to some place twice.
 ghost use Rattle.std.specs.Prelude.{◌≡◌, ◌+◌, ◌<◌, length, IfOk, MatchOption, IsTrue, ◌+ℤ◌, ◌≤ℤ◌};
 ghost use Rattle.std.specs.Prelude.{neg_ℤ, pos, int_le};
-ghost use Rattle.diff_bounds.specs.Differences.{state_limit};
-ghost use Rattle.diff_bounds.specs.Edges.{edge_at, AreNear};
+ghost use Rattle.diff_bounds.specs.{Differences.{state_limit}, Edges.{edge_at, AreNear}};
 ghost use Rattle.diff_bounds.specs.Walks.{IsNext};
 ghost use Rattle.diff_bounds.specs.States.{AreKept, AreShortNow, IsSettledNow, AreSettledNow};
 ghost use Rattle.diff_bounds.specs.States.{AreAheadNow, AreRelaxed, IsRound, IsEnd};

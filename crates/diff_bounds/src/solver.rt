@@ -1,12 +1,9 @@
 // The solver that a clause search asks.
-ghost use Rattle.std.specs.Prelude.{◌≡◌, true, false, IfOk};
-ghost use Rattle.std.specs.List.{list_all};
+ghost use Rattle.std.specs.{Prelude.{◌≡◌, true, false, IfOk}, List.{list_all}};
 ghost use Rattle.lin_rows.specs.Rows.{is_row};
 ghost use Rattle.theory_api.specs.Laws.{IsAnswer, all_below};
-ghost use Rattle.diff_bounds.specs.Differences.{are_taken};
-ghost use Rattle.diff_bounds.specs.Cycles.{AddsUp};
-ghost use Rattle.diff_bounds.specs.Distances.{HasShortest};
-ghost use Rattle.diff_bounds.specs.Edges.{AreEdges};
+ghost use Rattle.diff_bounds.specs.{Differences.{are_taken}, Cycles.{AddsUp}};
+ghost use Rattle.diff_bounds.specs.{Distances.{HasShortest}, Edges.{AreEdges}};
 ghost use Rattle.diff_bounds.specs.States.{AreKept, IsLongNow};
 
 use crate::cycle::{cycle_of, steps_of};

@@ -1,7 +1,6 @@
 // The values of the integer names: how far the latest visit of each is above that of 0.
 ghost use Rattle.std.specs.Prelude.{◌≡◌, ◌-ℤ◌, ◌≤ℤ◌, neg_ℤ, pos, IfOk};
-ghost use Rattle.diff_bounds.specs.Differences.{state_limit};
-ghost use Rattle.diff_bounds.specs.Values.{AreValues};
+ghost use Rattle.diff_bounds.specs.{Differences.{state_limit}, Values.{AreValues}};
 ghost use Rattle.diff_bounds.specs.States.{AreKept};
 
 use crate::edges::Edge;

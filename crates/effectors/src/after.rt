@@ -3,8 +3,7 @@
 // Nothing here takes memory. After one call a value is at most 3 * 10^26 in size, so a second call can be read over it.
 
 ghost use Rattle.std.specs.Prelude.{◌≡◌, true};
-ghost use Rattle.spec_core.specs.State.{reads};
-ghost use Rattle.spec_core.specs.Fits.{world_fits, call_fits, is_state};
+ghost use Rattle.spec_core.specs.{State.{reads}, Fits.{world_fits, call_fits, is_state}};
 ghost use Rattle.effectors.specs.Effect.{after};
 
 use crate::readings::{count_after_call, has_after_call};

@@ -4,16 +4,12 @@
 // gone through, for the first one that is.
 
 ghost use Rattle.std.specs.Prelude.{◌≡◌, ◌≢◌, ◌+◌, ◌≤◌, ℕ, ℤ, List, ◌∷◌, true, map, length, suc};
-ghost use Rattle.std.specs.Prelude.{nat_le, IfOk, OnOk, Err, Some, None};
-ghost use Rattle.std.specs.List.{list_all};
-ghost use Rattle.spec_core.specs.Specification.{op_of};
-ghost use Rattle.spec_core.specs.World.{tuples};
-ghost use Rattle.spec_core.specs.State.{reads};
+ghost use Rattle.std.specs.{Prelude.{nat_le, IfOk, OnOk, Err, Some, None}, List.{list_all}};
+ghost use Rattle.spec_core.specs.{Specification.{op_of}, World.{tuples}, State.{reads}};
 ghost use Rattle.spec_core.specs.Fits.{world_fits, call_fits, is_state};
 ghost use Rattle.effectors.specs.Effect.{count_after, numbered, after_call, after};
 ghost use Rattle.effectors.specs.Beyond.{Beyond, AllInRange, IsFirstBeyond, first_beyond};
-ghost use Rattle.effectors.specs.Outside.{outside_or};
-ghost use Rattle.effectors.specs.Refusal.{refused_by};
+ghost use Rattle.effectors.specs.{Outside.{outside_or}, Refusal.{refused_by}};
 
 use crate::in_place::apply_over;
 use crate::outside::Outside;

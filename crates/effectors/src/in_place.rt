@@ -5,8 +5,7 @@
 // the one that was left behind. Where memory fails for that, the second state is given up, and the next call copies the first.
 
 ghost use Rattle.std.specs.Prelude.{◌≡◌, true, Err, IfOk, OnOk};
-ghost use Rattle.spec_core.specs.State.{reads};
-ghost use Rattle.spec_core.specs.Fits.{world_fits, call_fits, is_state};
+ghost use Rattle.spec_core.specs.{State.{reads}, Fits.{world_fits, call_fits, is_state}};
 ghost use Rattle.effectors.specs.Effect.{after_call, after};
 ghost use Rattle.effectors.specs.Beyond.{Beyond, AllInRange, IsFirstBeyond};
 ghost use Rattle.effectors.specs.Spare.{IsTwin, IsSpare};

@@ -1,12 +1,9 @@
 // Laws of the effect of a call, and of the values that it leaves.
 
 ghost use Rattle.std.specs.Prelude.{◌≡◌, ◌↔◌, true, Option, Some, None};
-ghost use Rattle.spec_core.specs.declared.world.World.{World};
-ghost use Rattle.spec_core.specs.declared.world.Call.{Call};
-ghost use Rattle.spec_core.specs.Specification.{Specification};
-ghost use Rattle.spec_core.specs.State.{Listing, Reads};
-ghost use Rattle.spec_core.specs.Fits.{is_world, is_call, AgreeOn};
-ghost use Rattle.spec_core.specs.Typed.{is_specification};
+ghost use Rattle.spec_core.specs.{declared.world.World.{World}, declared.world.Call.{Call}};
+ghost use Rattle.spec_core.specs.{Specification.{Specification}, State.{Listing, Reads}};
+ghost use Rattle.spec_core.specs.{Fits.{is_world, is_call, AgreeOn}, Typed.{is_specification}};
 ghost use Rattle.effectors.specs.Effect.{after};
 ghost use Rattle.effectors.specs.Beyond.{Beyond, AllInRange, IsFirstBeyond, first_beyond};
 

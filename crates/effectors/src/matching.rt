@@ -1,9 +1,8 @@
 // The tuples or keys that the spots of an update match, in rising order. Only a `*` goes over a whole sort.
 
 ghost use Rattle.std.specs.Prelude.{◌≡◌, ◌++◌, ◌∷◌, [], true, map, nat_le, IfOk, OnOk};
-ghost use Rattle.spec_core.specs.World.{below, each_before};
 ghost use Rattle.std.specs.List.{list_all};
-ghost use Rattle.spec_core.specs.Specification.{places_of};
+ghost use Rattle.spec_core.specs.{World.{below, each_before}, Specification.{places_of}};
 ghost use Rattle.spec_core.specs.Fits.{fits_places, world_fits, spots_fit, update_fits};
 ghost use Rattle.effectors.specs.Reaching.{matching, reached};
 

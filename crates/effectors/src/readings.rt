@@ -1,8 +1,7 @@
 // What the state after a call reads, at one tuple or key, without building that state.
 
 ghost use Rattle.std.specs.Prelude.{◌≡◌, true};
-ghost use Rattle.spec_core.specs.Specification.{op_of};
-ghost use Rattle.spec_core.specs.Fits.{world_fits, call_fits};
+ghost use Rattle.spec_core.specs.{Specification.{op_of}, Fits.{world_fits, call_fits}};
 ghost use Rattle.effectors.specs.Effect.{has_after, count_after, after};
 ghost use Rattle.effectors.specs.Places.{fits_relation, fits_counter};
 

@@ -2,8 +2,7 @@
 ghost use Rattle.std.specs.Prelude.{◌≡◌, ◌<◌, ◌==◌, true, not, length, OnOk, IfOk, MatchResult, [], ◌∷◌, ◌++◌};
 ghost use Rattle.std.specs.List.{filter};
 ghost use Rattle.proof_lines.specs.Numbers.{stands_in};
-ghost use Rattle.elimination.specs.Stops.{IsEarlyStop};
-ghost use Rattle.elimination.specs.Tableaux.{IsElimination};
+ghost use Rattle.elimination.specs.{Stops.{IsEarlyStop}, Tableaux.{IsElimination}};
 
 use crate::choosing::fewest;
 use crate::sides::side_of;

@@ -4,14 +4,11 @@
 // isn't held; one whose fingerprint is there is mostly the row of that number. Where two rows have one fingerprint, which is rare,
 // all rows are compared. The other index has for each place the numbers of the rows that name it.
 ghost use Rattle.std.specs.Prelude.{◌≡◌, ℕ, ◌<◌, ◌||◌, ◌==◌, cond, true, length, OnErr, OnOk, Some};
-ghost use Rattle.std.specs.Prelude.{is_some, [], ◌∷◌, ◌++◌};
-ghost use Rattle.std.specs.List.{list_any};
-ghost use Rattle.line_rows.specs.Evidence.{same_row};
+ghost use Rattle.std.specs.{Prelude.{is_some, [], ◌∷◌, ◌++◌}, List.{list_any}};
+ghost use Rattle.line_rows.specs.{Evidence.{same_row}, Steps.{row_at}};
 ghost use Rattle.proof_lines.specs.Numbers.{stands_in};
-ghost use Rattle.line_rows.specs.Steps.{row_at};
 ghost use Rattle.elimination.specs.Fingerprints.{fingerprint, fingerprint_limit, found, mixed};
-ghost use Rattle.elimination.specs.Fingerprints.{number_part};
-ghost use Rattle.elimination.specs.Naming.{KeepsLists, lists};
+ghost use Rattle.elimination.specs.{Fingerprints.{number_part}, Naming.{KeepsLists, lists}};
 ghost use Rattle.elimination.specs.Places.{names};
 
 use crate::counts::Counts;
@@ -37,8 +34,7 @@ impl Model for Held {
     ghost use Rattle.std.specs.Prelude.{List, ℕ, ◌≡◌, ◌<◌, true, length, is_some};
     ghost use Rattle.lin_rows.specs.Rows.{Row};
     ghost use Rattle.line_rows.specs.Steps.{row_at};
-    ghost use Rattle.elimination.specs.Fingerprints.{fingerprint, found};
-    ghost use Rattle.elimination.specs.Naming.{IsNaming};
+    ghost use Rattle.elimination.specs.{Fingerprints.{fingerprint, found}, Naming.{IsNaming}};
 
     ghost Value = { List Row };
 

@@ -1,6 +1,5 @@
 // The places that rows name.
-ghost use Rattle.std.specs.Prelude.{◌≡◌, ℕ, ◌==◌, ◌||◌, IfOk, OnOk};
-ghost use Rattle.std.specs.List.{list_any};
+ghost use Rattle.std.specs.{Prelude.{◌≡◌, ℕ, ◌==◌, ◌||◌, IfOk, OnOk}, List.{list_any}};
 ghost use Rattle.proof_lines.specs.Numbers.{stands_in};
 ghost use Rattle.elimination.specs.Places.{names};
 

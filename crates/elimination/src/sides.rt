@@ -1,6 +1,5 @@
 // The upper and the lower rows of a place.
-ghost use Rattle.std.specs.Prelude.{◌≡◌, cond, not, length, IfOk};
-ghost use Rattle.std.specs.List.{list_all, filter};
+ghost use Rattle.std.specs.{Prelude.{◌≡◌, cond, not, length, IfOk}, List.{list_all, filter}};
 ghost use Rattle.lin_rows.specs.Rows.{coefficient_at};
 ghost use Rattle.proof_lines.specs.Numbers.{stands_in};
 ghost use Rattle.line_rows.specs.Steps.{is_negative, is_positive};

@@ -2,9 +2,7 @@
 ghost use Rattle.std.specs.Prelude.{◌≡◌, ◌<◌, true, length, MatchResult, Some, [], ◌∷◌};
 ghost use Rattle.lin_rows.specs.Cancelling.{combined};
 ghost use Rattle.line_rows.specs.Steps.{row_at};
-ghost use Rattle.elimination.specs.Needed.{is_needed};
-ghost use Rattle.elimination.specs.Pairs.{IsCombinedAt};
-ghost use Rattle.elimination.specs.Stops.{IsEarlyStop};
+ghost use Rattle.elimination.specs.{Needed.{is_needed}, Pairs.{IsCombinedAt}, Stops.{IsEarlyStop}};
 ghost use Rattle.elimination.specs.Tableaux.{AreCombined, CanAllMeet, CanMeet, IsGrown, IsTableau};
 
 use crate::held::Held;

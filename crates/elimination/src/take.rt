@@ -1,7 +1,6 @@
 // Taking the given rows into a tableau.
 ghost use Rattle.std.specs.Prelude.{◌≡◌, ◌<◌, ◌+◌, ◌*◌, length, MatchResult};
-ghost use Rattle.elimination.specs.Stops.{IsEarlyStop};
-ghost use Rattle.elimination.specs.Tableaux.{IsTaking};
+ghost use Rattle.elimination.specs.{Stops.{IsEarlyStop}, Tableaux.{IsTaking}};
 
 use crate::stop::Stop;
 use crate::tableau::{ROW_LIMIT, Tableau};

@@ -7,8 +7,7 @@
 //
 // Whether what is left is a conflict is tested by the rule of a Farkas line itself; where it isn't, or memory runs out, the conflict
 // stays as it was. So nothing has to be believed of the marks and the new numbers.
-ghost use Rattle.std.specs.Prelude.{◌≡◌, true, nat_lt, IfOk, IfSome};
-ghost use Rattle.std.specs.List.{list_all};
+ghost use Rattle.std.specs.{Prelude.{◌≡◌, true, nat_lt, IfOk, IfSome}, List.{list_all}};
 ghost use Rattle.theory_api.specs.Laws.{are_given, rows_at, IsConflict};
 
 use items::Items;

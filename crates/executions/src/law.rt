@@ -1,13 +1,11 @@
 // Why checking obligations is enough, and which sets of events have delivery orders.
 
 ghost use Rattle.std.specs.Prelude.{ℕ, List};
-ghost use Rattle.spec_core.specs.declared.world.World.{World};
-ghost use Rattle.spec_core.specs.declared.world.Call.{Call};
+ghost use Rattle.spec_core.specs.{declared.world.World.{World}, declared.world.Call.{Call}};
 ghost use Rattle.spec_core.specs.Specification.{Specification};
 ghost use Rattle.obligation_list.specs.Breaking.{Safe};
 ghost use Rattle.executions.specs.Orders.{Event, IsOrder, IsClosed, IsOrderOf};
-ghost use Rattle.executions.specs.Executions.{IsExecution};
-ghost use Rattle.executions.specs.Convergence.{system_of, Converges};
+ghost use Rattle.executions.specs.{Executions.{IsExecution}, Convergence.{system_of, Converges}};
 
 use spec_core::Spec;
 

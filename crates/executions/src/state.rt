@@ -2,12 +2,10 @@
 
 ghost use Rattle.std.specs.Prelude.{◌≡◌, ◌<◌, true, length, All, IfOk, OnOk, Err};
 ghost use Rattle.std.specs.List.{list_all};
-ghost use Rattle.spec_core.specs.State.{reads};
-ghost use Rattle.spec_core.specs.Fits.{is_state, world_fits, call_fits};
+ghost use Rattle.spec_core.specs.{State.{reads}, Fits.{is_state, world_fits, call_fits}};
 ghost use Rattle.effectors.specs.Beyond.{Beyond};
 ghost use Rattle.executions.specs.Executions.{state_after as state_after_of};
-ghost use Rattle.executions.specs.Convergence.{system_of};
-ghost use Rattle.executions.specs.Ranges.{StayInRange, IsFirstBeyondIn};
+ghost use Rattle.executions.specs.{Convergence.{system_of}, Ranges.{StayInRange, IsFirstBeyondIn}};
 
 use crate::event::Event;
 use effectors::{ApplyRefused, apply};

@@ -4,8 +4,7 @@ ghost use Rattle.std.specs.Option.{option_map};
 ghost use Rattle.ground_numbers.specs.Numbers as numbers;
 ghost use Rattle.ground_atoms.specs.Symbols.{atom_of, integer_of, reading_of};
 ghost use Rattle.ground_atoms.specs.Known.{Known, nothing, know_atom, know_integer, reading_of_atom};
-ghost use Rattle.ground_atoms.specs.Sizes.{size_of, cut_back};
-ghost use Rattle.ground_atoms.specs.Staying.{NumbersStay};
+ghost use Rattle.ground_atoms.specs.{Sizes.{size_of, cut_back}, Staying.{NumbersStay}};
 ghost use Rattle.ground_problem.specs.Definitions.{reading_of_integer};
 
 use crate::atom::{Atom, IntName, NamedReading, same_arguments};

@@ -1,6 +1,5 @@
 // Rows, as parts of what is numbered.
-ghost use Rattle.std.specs.Prelude.{◌≡◌};
-ghost use Rattle.std.specs.Cmp.{partial_equiv_from_equiv};
+ghost use Rattle.std.specs.{Prelude.{◌≡◌}, Cmp.{partial_equiv_from_equiv}};
 ghost use Rattle.line_rows.specs.Evidence.{same_row};
 ghost use Rattle.ground_atoms.specs.Keys.{fed_row, rows_equal, fed_alike};
 

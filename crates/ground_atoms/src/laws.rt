@@ -1,16 +1,12 @@
 // The laws of formulas that are numbered as they are made.
 
-ghost use Rattle.std.specs.Prelude.{◌≡◌, ◌==◌, ◌++◌, ℕ, List, [], length, map};
-ghost use Rattle.std.specs.List.{filter};
+ghost use Rattle.std.specs.{Prelude.{◌≡◌, ◌==◌, ◌++◌, ℕ, List, [], length, map}, List.{filter}};
 ghost use Rattle.spec_core.specs.Specification.{Specification};
 ghost use Rattle.obligation_list.specs.declared.obligation.Obligation.{Obligation};
-ghost use Rattle.ground_problem.specs.Symbols.{Symbolic};
-ghost use Rattle.ground_problem.specs.Definitions.{readings_after};
-ghost use Rattle.ground_numbers.specs.Numbered.{Numbered};
-ghost use Rattle.ground_numbers.specs.Numbers.{numbered, naming_all};
+ghost use Rattle.ground_problem.specs.{Symbols.{Symbolic}, Definitions.{readings_after}};
+ghost use Rattle.ground_numbers.specs.{Numbered.{Numbered}, Numbers.{numbered, naming_all}};
 ghost use Rattle.ground_numbers.specs.Problem.{arguments_of};
-ghost use Rattle.ground_atoms.specs.Known.{Known};
-ghost use Rattle.ground_atoms.specs.Making.{make_all};
+ghost use Rattle.ground_atoms.specs.{Known.{Known}, Making.{make_all}};
 
 /// Formulas that are numbered as they are made have the numbers of the final table, and the readings that were named are those that
 /// the formulas name, each where it is first named.

@@ -1,8 +1,7 @@
 // Tuples of constants, as parts of what is numbered.
-ghost use Rattle.std.specs.Prelude.{◌≡◌, IfOk, nat_eq};
-ghost use Rattle.std.specs.Hash as fed;
-ghost use Rattle.std.specs.Cmp.Lexicographic.{pointwise};
+ghost use Rattle.std.specs.{Prelude.{◌≡◌, IfOk, nat_eq}, Cmp.Lexicographic.{pointwise}};
 ghost use Rattle.std.specs.Cmp.Rules.{comparing, hashing};
+ghost use Rattle.std.specs.Hash as fed;
 ghost use Rattle.std.proofs.Common.{rules};
 
 use std::alloc::{AllocError, Global};

@@ -1,17 +1,14 @@
 // Two calls don't conflict.
 ghost use Rattle.std.specs.Prelude.{◌≡◌, ◌+◌, ◌++◌, ◌<◌, [], ◌==◌, length, cond, drop, take};
-ghost use Rattle.std.specs.Prelude.{slice_index, IfOk, OnOk};
-ghost use Rattle.std.specs.List.{flat_map, list_any};
+ghost use Rattle.std.specs.{Prelude.{slice_index, IfOk, OnOk}, List.{flat_map, list_any}};
 ghost use Rattle.std.specs.Option.{option_map};
 ghost use Rattle.spec_core.specs.Specification.{op_of};
 ghost use Rattle.ground_problem.specs.Symbols as symbols;
 ghost use Rattle.ground_problem.specs.Formulas.{consts_of};
 ghost use Rattle.ground_problem.specs.Entry as entry;
 ghost use Rattle.ground_atoms.specs.Formulas.{form_of};
-ghost use Rattle.stage_defs.specs.Settings.{caller_in, IsMade};
-ghost use Rattle.stage_defs.specs.Parts.{make_parts};
-ghost use Rattle.ground_groups.specs.Calls.{constants_in};
-ghost use Rattle.ground_groups.specs.Limited.{Appends};
+ghost use Rattle.stage_defs.specs.{Settings.{caller_in, IsMade}, Parts.{make_parts}};
+ghost use Rattle.ground_groups.specs.{Calls.{constants_in}, Limited.{Appends}};
 ghost use Rattle.ground_groups.specs.Rules.{unmatched_as};
 
 use crate::adding::has_room;

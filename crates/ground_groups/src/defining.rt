@@ -1,15 +1,11 @@
 // The definitions of the readings after a call.
-ghost use Rattle.std.specs.Prelude.{◌≡◌, ◌==◌, length, map, IfOk};
-ghost use Rattle.std.specs.List.{filter, flat_map};
+ghost use Rattle.std.specs.{Prelude.{◌≡◌, ◌==◌, length, map, IfOk}, List.{filter, flat_map}};
 ghost use Rattle.obligation_list.specs.declared.obligation.Obligation.{Obligation};
-ghost use Rattle.ground_problem.specs.Constants.{constants_of};
-ghost use Rattle.ground_problem.specs.Definitions.{definition};
+ghost use Rattle.ground_problem.specs.{Constants.{constants_of}, Definitions.{definition}};
 ghost use Rattle.ground_numbers.specs.Stages.{stage_of};
-ghost use Rattle.ground_atoms.specs.Symbols.{reading_of};
+ghost use Rattle.ground_atoms.specs.{Symbols.{reading_of}, Calls.{calls_of}};
 ghost use Rattle.stage_defs.specs.Settings.{has_defined, count_defined};
-ghost use Rattle.ground_groups.specs.Limited.{Appends};
-ghost use Rattle.ground_atoms.specs.Calls.{calls_of};
-ghost use Rattle.ground_groups.specs.Defined.{defined_at, defined_by};
+ghost use Rattle.ground_groups.specs.{Limited.{Appends}, Defined.{defined_at, defined_by}};
 
 use crate::adding::within_limit;
 use crate::grounding::Grounding;

@@ -1,15 +1,13 @@
 // What is true at the entry: the invariants and the requires lines of the calls.
-ghost use Rattle.std.specs.Prelude.{◌≡◌, ◌≤◌, ◌-◌, [], length, get_or, IfOk};
-ghost use Rattle.std.specs.List.{flat_map};
+ghost use Rattle.std.specs.{Prelude.{◌≡◌, ◌≤◌, ◌-◌, [], length, get_or, IfOk}, List.{flat_map}};
 ghost use Rattle.ground_problem.specs.Constants.{assignments};
-ghost use Rattle.ground_atoms.specs.Formulas.{consts_of_args};
 ghost use Rattle.ground_problem.specs.Formulas.{at_stage, caller, instances};
-ghost use Rattle.ground_problem.specs.Entry as entry;
 ghost use Rattle.ground_problem.specs.Problem.{most_formulas};
+ghost use Rattle.ground_atoms.specs.Formulas.{consts_of_args};
+ghost use Rattle.ground_problem.specs.Entry as entry;
 ghost use Rattle.spec_core.specs.Specification.{op_of};
 ghost use Rattle.stage_defs.specs.Settings.{readings_in, caller_in};
-ghost use Rattle.ground_groups.specs.Limited.{Appends, HasRoomFor};
-ghost use Rattle.ground_groups.specs.Calls.{constants_in};
+ghost use Rattle.ground_groups.specs.{Limited.{Appends, HasRoomFor}, Calls.{constants_in}};
 ghost use Rattle.ground_groups.specs.Lines.{line_at, lines_at};
 
 use crate::adding::MOST_FORMULAS;

@@ -1,8 +1,7 @@
 // The constants of an obligation, and its calls.
 ghost use Rattle.std.specs.Prelude.{◌≡◌, ◌+◌, ◌++◌, ◌∷◌, [], ◌<◌, map, length, IfOk, OnOk};
 ghost use Rattle.std.specs.List.{range_with_len, flat_map};
-ghost use Rattle.spec_core.specs.Meaning.{invariant_line};
-ghost use Rattle.spec_core.specs.Specification.{op_of, places_of};
+ghost use Rattle.spec_core.specs.{Meaning.{invariant_line}, Specification.{op_of, places_of}};
 ghost use Rattle.obligation_list.specs.Breaking as breaking;
 ghost use Rattle.obligation_list.specs.Obligations.{IsObligation};
 ghost use Rattle.ground_problem.specs.Constants.{constants_of, sorts_of_params, chosen_vars};

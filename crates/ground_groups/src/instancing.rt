@@ -4,13 +4,10 @@
 // assignments is made.
 ghost use Rattle.std.specs.Prelude.{◌≡◌, ◌-◌, ◌++◌, ◌∷◌, [], ℕ, List, map, length, OnOk};
 ghost use Rattle.spec_core.specs.Form.{form_of};
-ghost use Rattle.ground_problem.specs.Symbols.{negated};
-ghost use Rattle.ground_problem.specs.Formulas.{formula, instances};
-ghost use Rattle.ground_problem.specs.Problem.{most_formulas};
-ghost use Rattle.ground_problem.specs.Constants.{choices};
+ghost use Rattle.ground_problem.specs.{Symbols.{negated}, Formulas.{formula, instances}};
+ghost use Rattle.ground_problem.specs.{Problem.{most_formulas}, Constants.{choices}};
 ghost use Rattle.stage_defs.specs.Settings.{readings_in, caller_in};
-ghost use Rattle.ground_groups.specs.Limited.{Appends, HasRoomFor};
-ghost use Rattle.ground_groups.specs.Calls.{constants_in};
+ghost use Rattle.ground_groups.specs.{Limited.{Appends, HasRoomFor}, Calls.{constants_in}};
 ghost use Rattle.ground_groups.specs.Lines.{signed};
 
 use crate::adding::{MOST_FORMULAS, has_room};

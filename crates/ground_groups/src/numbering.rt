@@ -1,6 +1,5 @@
 // The numbers of the whole numbers among the arguments.
-ghost use Rattle.std.specs.Prelude.{◌≡◌, ◌<◌, length, slice_index, map, IfOk, OnOk};
-ghost use Rattle.std.specs.List.{fold};
+ghost use Rattle.std.specs.{Prelude.{◌≡◌, ◌<◌, length, slice_index, map, IfOk, OnOk}, List.{fold}};
 ghost use Rattle.spec_core.specs.Specification.{op_of};
 ghost use Rattle.ground_problem.specs.Symbols.{argument};
 ghost use Rattle.ground_numbers.specs.Problem.{numbers_from, arguments_from};

@@ -1,6 +1,5 @@
 // Parts of a formula that are joined as they are made.
-ghost use Rattle.std.specs.Prelude.{◌≡◌, ◌∷◌, [], Some, false, cond, IfOk};
-ghost use Rattle.std.specs.Option.{option_map};
+ghost use Rattle.std.specs.{Prelude.{◌≡◌, ◌∷◌, [], Some, false, cond, IfOk}, Option.{option_map}};
 ghost use Rattle.ground_problem.specs.Symbols as symbols;
 ghost use Rattle.ground_numbers.specs.Numbered.{known};
 ghost use Rattle.ground_atoms.specs.Formulas.{form_of};

@@ -3,8 +3,7 @@ ghost use Rattle.std.specs.Prelude.{◌≡◌};
 ghost use Rattle.ground_problem.specs.Formulas.{caller};
 ghost use Rattle.ground_problem.specs.Entry as entry;
 ghost use Rattle.spec_core.specs.Specification.{op_of};
-ghost use Rattle.ground_groups.specs.Limited.{Appends};
-ghost use Rattle.ground_groups.specs.Calls.{constants_in};
+ghost use Rattle.ground_groups.specs.{Limited.{Appends}, Calls.{constants_in}};
 
 use crate::entry::add_call_ready;
 use crate::gathering::Named;

@@ -1,28 +1,20 @@
 // The laws of numbers and clauses.
 
 ghost use Rattle.std.specs.Prelude.{◌≡◌, ◌^◌, ◌==◌, ℕ, suc, nat_lt, ℤ, pos, Bool, true, Some, List, [], ◌∷◌, ◌++◌, map, length};
-ghost use Rattle.std.specs.List.{fold, list_all};
-ghost use Rattle.std.specs.Str.{bytes_eq};
-ghost use Rattle.spec_core.specs.declared.world.World.{World};
-ghost use Rattle.spec_core.specs.declared.world.Call.{Call};
-ghost use Rattle.spec_core.specs.Specification.{Specification};
-ghost use Rattle.spec_core.specs.State.{Listing};
+ghost use Rattle.std.specs.{List.{fold, list_all}, Str.{bytes_eq}};
+ghost use Rattle.spec_core.specs.{declared.world.World.{World}, declared.world.Call.{Call}};
+ghost use Rattle.spec_core.specs.{Specification.{Specification}, State.{Listing}};
 ghost use Rattle.spec_core.specs.Typed.{is_specification};
 ghost use Rattle.obligation_list.specs.declared.obligation.Obligation.{Obligation};
-ghost use Rattle.obligation_list.specs.Breaking.{Breaks, Holds};
-ghost use Rattle.obligation_list.specs.Obligations.{IsObligation};
-ghost use Rattle.lin_rows.specs.declared.term.RowTerm.{RowTerm};
-ghost use Rattle.lin_rows.specs.Rows.{Row};
-ghost use Rattle.lin_rows.specs.Sums.{row_of};
+ghost use Rattle.obligation_list.specs.{Breaking.{Breaks, Holds}, Obligations.{IsObligation}};
+ghost use Rattle.lin_rows.specs.{declared.term.RowTerm.{RowTerm}, Rows.{Row}, Sums.{row_of}};
 ghost use Rattle.proof_lines.specs.Problems.{fits, Meaning, atom_true, makes_true, HasNoInterpretation};
 ghost use Rattle.ground_problem.specs.Symbols.{Integer, Symbolic, all_true};
-ghost use Rattle.ground_problem.specs.Problem.{formulas_of};
-ghost use Rattle.ground_problem.specs.Readback.{ReadFrom};
+ghost use Rattle.ground_problem.specs.{Problem.{formulas_of}, Readback.{ReadFrom}};
 ghost use Rattle.ground_numbers.specs.Stages.{stage_of, stage_before, latest_call};
 ghost use Rattle.ground_numbers.specs.Numbered.{Numbered, all_hold, is_below};
 ghost use Rattle.ground_numbers.specs.Numbers.{Table, with_integer, added_up, numbered, naming_all};
-ghost use Rattle.ground_numbers.specs.Sizes.{size_of_terms, rows_small};
-ghost use Rattle.ground_numbers.specs.Steps.{steps_after};
+ghost use Rattle.ground_numbers.specs.{Sizes.{size_of_terms, rows_small}, Steps.{steps_after}};
 ghost use Rattle.ground_numbers.specs.Problem.{arguments_of, table_of, numbered_of, kind_of, rows_placed, problem, problem_of, interpretation_of};
 
 /// What breaks an obligation of a well-formed specification gives a meaning that makes all clauses of its problem true.

@@ -1,17 +1,12 @@
 // The laws of the ground problem.
 
 ghost use Rattle.std.specs.Prelude.{◌≡◌, ℕ, true, List};
-ghost use Rattle.spec_core.specs.declared.world.World.{World};
-ghost use Rattle.spec_core.specs.declared.world.Call.{Call};
-ghost use Rattle.spec_core.specs.Specification.{Specification};
-ghost use Rattle.spec_core.specs.State.{Listing};
-ghost use Rattle.spec_core.specs.Fits.{is_state};
+ghost use Rattle.spec_core.specs.{declared.world.World.{World}, declared.world.Call.{Call}};
+ghost use Rattle.spec_core.specs.{Specification.{Specification}, State.{Listing}, Fits.{is_state}};
 ghost use Rattle.spec_core.specs.Typed.{is_specification};
 ghost use Rattle.obligation_list.specs.declared.obligation.Obligation.{Obligation};
-ghost use Rattle.obligation_list.specs.Breaking.{Breaks};
-ghost use Rattle.obligation_list.specs.Obligations.{IsObligation};
-ghost use Rattle.ground_problem.specs.Symbols.{Interpretation, all_true};
-ghost use Rattle.ground_problem.specs.Problem.{formulas_of};
+ghost use Rattle.obligation_list.specs.{Breaking.{Breaks}, Obligations.{IsObligation}};
+ghost use Rattle.ground_problem.specs.{Symbols.{Interpretation, all_true}, Problem.{formulas_of}};
 ghost use Rattle.ground_problem.specs.Readback.{world_of, calls_of, elements_at, IsEntry, ReadFrom};
 
 /// What breaks an obligation of a well-formed specification gives an interpretation that makes all its formulas true. So an

@@ -2,8 +2,7 @@
 
 ghost use Rattle.std.specs.Prelude.{◌≡◌, Some, map};
 ghost use Rattle.proof_lines.specs.Problems.{atom_true, kind_true, meaning_of, row_true};
-ghost use Rattle.ground_numbers.specs.Numbered.{all_hold, holds};
-ghost use Rattle.ground_numbers.specs.Problem.{kind_of};
+ghost use Rattle.ground_numbers.specs.{Numbered.{all_hold, holds}, Problem.{kind_of}};
 ghost use Rattle.ground_atoms.specs.Formulas.{form_of, tuples_equal, readings_agree};
 ghost use Rattle.ground_atoms.specs.Symbols.{atom_of};
 

@@ -1,7 +1,6 @@
 // Specifications, their obligations, and the problems of these. What lacks memory ends the test.
 
-ghost use Rattle.std.specs.Prelude.{◌≡◌, IfOk, IfSome};
-ghost use Rattle.std.specs.List.{Contains};
+ghost use Rattle.std.specs.{Prelude.{◌≡◌, IfOk, IfSome}, List.{Contains}};
 ghost use Rattle.obligation_list.specs.Obligations.{IsObligation};
 ghost use Rattle.ground_numbers.specs.Problem.{problem_of};
 ghost use Rattle.instances.specs.Ground.{IsGrounded};

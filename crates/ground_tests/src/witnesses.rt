@@ -1,7 +1,6 @@
 // Witnesses from interpretations that are written by hand: each breaks its obligation, and has the least element for each class.
 
-ghost use Rattle.std.specs.Prelude.{◌≡◌, true};
-ghost use Rattle.std.specs.List.{list_all};
+ghost use Rattle.std.specs.{Prelude.{◌≡◌, true}, List.{list_all}};
 ghost use Rattle.spec_core.specs.Fits.{in_state_range};
 ghost use Rattle.obligation_list.specs.Obligations.{IsObligation};
 ghost use Rattle.instances.specs.Ground.{IsGrounded};

@@ -26,8 +26,7 @@
 #![tactic(auto)]
 
 ghost use Rattle.std.specs.Prelude.{◌≡◌, ℕ, Bool, List, true};
-ghost use Rattle.proof_lines.specs.declared.clause.Lit.{Lit as PlainLit};
-ghost use Rattle.proof_lines.specs.Clauses.{all_true};
+ghost use Rattle.proof_lines.specs.{declared.clause.Lit.{Lit as PlainLit}, Clauses.{all_true}};
 ghost use Rattle.proof_lines.specs.Problems.{PlainProblem};
 ghost use Rattle.implicants.specs.Implicants.{IsImplicant, Agrees};
 

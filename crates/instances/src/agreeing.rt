@@ -1,9 +1,7 @@
 // Equal constants have equal readings at the entry.
 ghost use Rattle.std.specs.Prelude.{◌≡◌, ◌+◌, ◌-◌, ◌<◌, ◌≤◌, ◌++◌, ◌∷◌, [], cond, length, map};
-ghost use Rattle.std.specs.Prelude.{drop, take, IfOk};
-ghost use Rattle.std.specs.Ordering.{nat_cmp, is_lt};
-ghost use Rattle.std.specs.Cmp.Lexicographic.{slice_cmp};
-ghost use Rattle.std.specs.List.{filter, flat_map};
+ghost use Rattle.std.specs.{Prelude.{drop, take, IfOk}, Ordering.{nat_cmp, is_lt}};
+ghost use Rattle.std.specs.{Cmp.Lexicographic.{slice_cmp}, List.{filter, flat_map}};
 ghost use Rattle.effectors.specs.Effect as effect;
 ghost use Rattle.ground_problem.specs.Equality as equality;
 ghost use Rattle.ground_atoms.specs.Symbols.{reading_of};

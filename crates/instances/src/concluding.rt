@@ -3,8 +3,7 @@ ghost use Rattle.std.specs.Prelude.{◌≡◌};
 ghost use Rattle.ground_problem.specs.Conclusion as conclusion;
 ghost use Rattle.stage_defs.specs.Settings.{readings_in, caller_in};
 ghost use Rattle.obligation_list.specs.Obligations.{IsObligation};
-ghost use Rattle.ground_groups.specs.Calls.{constants_in};
-ghost use Rattle.ground_groups.specs.Limited.{Appends};
+ghost use Rattle.ground_groups.specs.{Calls.{constants_in}, Limited.{Appends}};
 
 use ground_groups::differing::add_differs;
 use ground_groups::entry::args_of;

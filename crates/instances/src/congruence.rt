@@ -8,10 +8,9 @@ ghost use Rattle.ground_problem.specs.Symbols as symbols;
 ghost use Rattle.ground_problem.specs.Equality as equality;
 ghost use Rattle.ground_numbers.specs.Numbered.{known, literal, negation, conjunction, disjunction};
 ghost use Rattle.ground_numbers.specs.Numbers.{has_atom, number_of};
-ghost use Rattle.ground_atoms.specs.Known.{know_atom};
-ghost use Rattle.ground_atoms.specs.Making.{make};
-ghost use Rattle.ground_atoms.specs.declared.formula.Agreement.TheVariants as agreements;
+ghost use Rattle.ground_atoms.specs.{Known.{know_atom}, Making.{make}};
 ghost use Rattle.ground_atoms.specs.Formulas.{form_of, readings_agree};
+ghost use Rattle.ground_atoms.specs.declared.formula.Agreement.TheVariants as agreements;
 ghost use Rattle.stage_defs.specs.Settings.{IsMade};
 ghost use Rattle.instances.specs.Congruent.{premise_of, conclusion_of};
 

@@ -3,16 +3,13 @@
 // The obligations of one operation, of two, or of any whose parameters are alike, begin with the same invariants at the same constants,
 // under the same numbers. What was made of them is cut back to where an obligation's own formulas begin, and goes on from there.
 ghost use Rattle.std.specs.Prelude.{◌≡◌, [], true, false, length, map, take, List, Some, None};
-ghost use Rattle.std.specs.Prelude.{IfOk, IfSome, IsTrue};
-ghost use Rattle.std.specs.List.{list_all};
+ghost use Rattle.std.specs.{Prelude.{IfOk, IfSome, IsTrue}, List.{list_all}};
 ghost use Rattle.obligation_list.specs.Obligations.{IsObligation};
 ghost use Rattle.ground_problem.specs.Constants.{constants_of};
 ghost use Rattle.ground_problem.specs.Entry as entry;
 ghost use Rattle.ground_numbers.specs.Numbered.{Numbered, is_below};
-ghost use Rattle.ground_atoms.specs.Formulas.{form_of};
-ghost use Rattle.ground_atoms.specs.Sizes.{size_of, cut_back};
-ghost use Rattle.ground_groups.specs.Calls.{constants_in, numbered_arguments};
-ghost use Rattle.ground_groups.specs.Limited.{Appends};
+ghost use Rattle.ground_atoms.specs.{Formulas.{form_of}, Sizes.{size_of, cut_back}};
+ghost use Rattle.ground_groups.specs.{Calls.{constants_in, numbered_arguments}, Limited.{Appends}};
 ghost use Rattle.clausify.specs.Kept.{AreClausesOf};
 ghost use Rattle.instances.specs.Entry.{known_from, HasClausesOf, IsEntry, IsSharedOr, IsBegunOr};
 ghost use Rattle.instances.specs.Entry.{IsCutBack};

@@ -3,12 +3,11 @@ ghost use Rattle.std.specs.Prelude.{◌≡◌, ◌++◌, [], Some};
 ghost use Rattle.obligation_list.specs.Breaking as breaking;
 ghost use Rattle.obligation_list.specs.Obligations.{IsObligation};
 ghost use Rattle.ground_problem.specs.Entry as entry;
-ghost use Rattle.ground_problem.specs.Problem.{stated, defined};
-ghost use Rattle.ground_problem.specs.Definitions.{with_definitions};
+ghost use Rattle.ground_problem.specs.{Problem.{stated, defined}, Definitions.{with_definitions}};
 ghost use Rattle.ground_problem.specs.Constants.{constants_of};
 ghost use Rattle.ground_groups.specs.Limited.{Appends, Makes, make_upto, made_in};
-ghost use Rattle.ground_atoms.specs.Calls.{calls_of};
 ghost use Rattle.ground_groups.specs.Calls.{constants_in, numbered_arguments};
+ghost use Rattle.ground_atoms.specs.Calls.{calls_of};
 
 use crate::concluding::add_conclusion;
 use ground_groups::conflicting::add_free;

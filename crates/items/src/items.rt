@@ -1,8 +1,7 @@
 // A vector that contracts see as the list of its elements.
 ghost use Rattle.std.specs.Prelude.{◌≡◌, [], ◌∷◌, ◌++◌, ◌==◌, ◌<◌, ◌^◌, length, OnOk, OnErr, IfOk};
 ghost use Rattle.std.specs.Prelude.{IfSome, IfNone, slice_get, option_copied};
-ghost use Rattle.std.specs.Slice.Iter.{iter_rest};
-ghost use Rattle.std.specs.Iterator.Adapters.{IterYieldsInOrder};
+ghost use Rattle.std.specs.{Slice.Iter.{iter_rest}, Iterator.Adapters.{IterYieldsInOrder}};
 
 use std::alloc::{AllocError, Global};
 use std::marker::Model;

@@ -4,8 +4,7 @@
 // by last use: what was used the longest ago goes first, where they are more than 128 or have more than 240,000 formulas.
 ghost use Rattle.spec_core.specs.Specification.{Specification};
 ghost use Rattle.obligation_list.specs.Obligations.{IsObligation};
-ghost use Rattle.lazy_ground.specs.Kept.{IsKept};
-ghost use Rattle.lazy_ground.specs.Cache.{AreKept};
+ghost use Rattle.lazy_ground.specs.{Kept.{IsKept}, Cache.{AreKept}};
 
 use crate::Kept;
 use instances::EntryKey;

@@ -3,12 +3,10 @@ ghost use Rattle.std.specs.Prelude.{◌≡◌, ◌≤◌, ◌+◌, ◌++◌, ltb
 ghost use Rattle.std.specs.List.{filter, flat_map};
 ghost use Rattle.obligation_list.specs.Obligations.{things};
 ghost use Rattle.effectors.specs.Effect as effect;
-ghost use Rattle.ground_problem.specs.Equality.{congruence};
-ghost use Rattle.ground_problem.specs.Problem.{formulas_of, most_formulas};
+ghost use Rattle.ground_problem.specs.{Equality.{congruence}, Problem.{formulas_of, most_formulas}};
 ghost use Rattle.instances.specs.Pairs.{pair_count};
 ghost use Rattle.ground_atoms.specs.Symbols.{reading_of};
-ghost use Rattle.lazy_ground.specs.Pairs.{pairs_of};
-ghost use Rattle.lazy_ground.specs.Front.{IsFront, ArePairsFor, IsCount};
+ghost use Rattle.lazy_ground.specs.{Pairs.{pairs_of}, Front.{IsFront, ArePairsFor, IsCount}};
 ghost use Rattle.lazy_ground.specs.Named.{AreFound};
 
 use crate::front::Front;

@@ -11,8 +11,7 @@ ghost use Rattle.ground_problem.specs.Equality as equality;
 ghost use Rattle.ground_numbers.specs.Numbers.{numbered};
 ghost use Rattle.ground_atoms.specs.Formulas.{form_of};
 ghost use Rattle.instances.specs.Ground.{IsGrounded};
-ghost use Rattle.lazy_ground.specs.Pairs.{pair_forms};
-ghost use Rattle.lazy_ground.specs.Lazy.{IsLazyGround};
+ghost use Rattle.lazy_ground.specs.{Pairs.{pair_forms}, Lazy.{IsLazyGround}};
 ghost use Rattle.lazy_ground.specs.Named.{IsNamed, AllNamed};
 ghost use Rattle.lazy_ground.specs.Kept.{HasLazyKept, HasWholeKept, IsKept};
 

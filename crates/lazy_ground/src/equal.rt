@@ -1,10 +1,8 @@
 // The equality of two constants and of two tuples, over numbers that are known.
-ghost use Rattle.std.specs.Prelude.{◌≡◌, IfOk, IfSome};
-ghost use Rattle.std.specs.List.{list_all};
+ghost use Rattle.std.specs.{Prelude.{◌≡◌, IfOk, IfSome}, List.{list_all}};
 ghost use Rattle.ground_problem.specs.Symbols as symbols;
 ghost use Rattle.ground_problem.specs.Equality as equality;
-ghost use Rattle.ground_numbers.specs.Numbered.{conjunction};
-ghost use Rattle.ground_numbers.specs.Numbers.{numbered};
+ghost use Rattle.ground_numbers.specs.{Numbered.{conjunction}, Numbers.{numbered}};
 ghost use Rattle.ground_atoms.specs.Formulas.{form_of, tuples_equal};
 ghost use Rattle.lazy_ground.specs.Equal.{equality_form, equality_known, all_known, fits};
 

@@ -6,8 +6,7 @@ ghost use Rattle.ground_problem.specs.Constants.{constants_of};
 ghost use Rattle.ground_atoms.specs.Calls.{calls_of};
 ghost use Rattle.ground_groups.specs.Calls.{constants_in};
 ghost use Rattle.instances.specs.Entry.{IsBegun};
-ghost use Rattle.lazy_ground.specs.Pairs.{AllNumbered};
-ghost use Rattle.lazy_ground.specs.Kept.{IsKeptPairs, IsKept};
+ghost use Rattle.lazy_ground.specs.{Pairs.{AllNumbered}, Kept.{IsKeptPairs, IsKept}};
 ghost use Rattle.lazy_ground.specs.Front.{IsFrontOr};
 
 use crate::grounding::Kept;

@@ -4,18 +4,16 @@ ghost use Rattle.std.specs.Prelude.{◌≡◌, ◌≤◌, ◌++◌, [], length, 
 ghost use Rattle.std.specs.List.{flat_map};
 ghost use Rattle.obligation_list.specs.Obligations.{IsObligation, things};
 ghost use Rattle.obligation_list.specs.declared.obligation.Obligation.{Obligation};
-ghost use Rattle.ground_problem.specs.Problem.{formulas_of, most_formulas};
+ghost use Rattle.ground_problem.specs.{Problem.{formulas_of, most_formulas}, Equality.{congruence}};
 ghost use Rattle.ground_atoms.specs.Symbols.{reading_of};
 ghost use Rattle.ground_numbers.specs.Numbers.{Table};
-ghost use Rattle.ground_problem.specs.Equality.{congruence};
 ghost use Rattle.ground_groups.specs.Limited.{Makes};
-ghost use Rattle.lazy_ground.specs.Front.{IsFront, ArePairsFor};
-ghost use Rattle.lazy_ground.specs.Pairs.{pairs_of, AllNumbered};
+ghost use Rattle.lazy_ground.specs.{Front.{IsFront, ArePairsFor}, Pairs.{pairs_of, AllNumbered}};
 ghost use Rattle.lazy_ground.specs.Named.{AllFit, AreFound, known_after};
-ghost use Rattle.spec_core.specs.Specification.{Specification};
-ghost use Rattle.instances.specs.Entry.{IsEntry, entry_with};
 ghost use Rattle.lazy_ground.specs.Kept.{IsKeptPairs, IsKept, HasLazyKept, HasKept, HasEitherClauses};
 ghost use Rattle.lazy_ground.specs.Lazy.{IsGroundEither};
+ghost use Rattle.spec_core.specs.Specification.{Specification};
+ghost use Rattle.instances.specs.Entry.{IsEntry, entry_with};
 
 use crate::choosing::{choose, has_too_many, has_too_many_beside};
 use crate::front::{Front, FrontAndPairs, make_front};

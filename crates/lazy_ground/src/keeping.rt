@@ -4,16 +4,12 @@
 // formulas on equal readings, and these readings have the numbers that they had. What is left to be tested is what the next obligation
 // names itself: that no reading came to those at the entry.
 ghost use Rattle.std.specs.Prelude.{◌≡◌, ◌==◌, true, length, map, filter, ltb, Option, IfOk, IfSome, IsTrue, List};
-ghost use Rattle.std.specs.List.{list_all, list_any};
-ghost use Rattle.std.specs.Str.{bytes_eq};
+ghost use Rattle.std.specs.{List.{list_all, list_any}, Str.{bytes_eq}};
 ghost use Rattle.ground_problem.specs.Definitions.{Reading};
-ghost use Rattle.ground_numbers.specs.Numbers.{Table};
-ghost use Rattle.ground_numbers.specs.Stages.{stage_of};
+ghost use Rattle.ground_numbers.specs.{Numbers.{Table}, Stages.{stage_of}};
 ghost use Rattle.ground_atoms.specs.Symbols.{reading_of};
-ghost use Rattle.instances.specs.declared.entry.Entry.{Entry};
-ghost use Rattle.instances.specs.Entry.{IsCutBack};
-ghost use Rattle.lazy_ground.specs.Equal.{all_known};
-ghost use Rattle.lazy_ground.specs.Pairs.{AllNumbered};
+ghost use Rattle.instances.specs.{declared.entry.Entry.{Entry}, Entry.{IsCutBack}};
+ghost use Rattle.lazy_ground.specs.{Equal.{all_known}, Pairs.{AllNumbered}};
 ghost use Rattle.lazy_ground.specs.Named.{columns_known, numbers_below};
 ghost use Rattle.lazy_ground.specs.Kept.{thing_of, AllBuilt, IsKeptPairs, HaveNumbers};
 

@@ -3,14 +3,12 @@
 // An equality that no formula in front of them names gets its number here: in the order in which these formulas would name it, so that
 // the formulas behind them have the numbers that they have in the whole problem. None of them is made. Their readings have numbers.
 ghost use Rattle.std.specs.Prelude.{◌≡◌, ◌<◌, ◌+◌, [], true, length, map, drop, slice_index_or};
-ghost use Rattle.std.specs.Prelude.{OnOk};
-ghost use Rattle.std.specs.List.{flat_map, list_all};
+ghost use Rattle.std.specs.{Prelude.{OnOk}, List.{flat_map, list_all}};
 ghost use Rattle.spec_core.specs.declared.update.Thing.TheVariants as thing;
 ghost use Rattle.ground_problem.specs.Equality as equality;
 ghost use Rattle.ground_numbers.specs.Numbers.{has_atom, has_number};
 ghost use Rattle.ground_atoms.specs.Making.{make};
-ghost use Rattle.lazy_ground.specs.Equal.{fits};
-ghost use Rattle.lazy_ground.specs.Pairs.{pairs_of, readings_known, AllNumbered};
+ghost use Rattle.lazy_ground.specs.{Equal.{fits}, Pairs.{pairs_of, readings_known, AllNumbered}};
 ghost use Rattle.lazy_ground.specs.Named.{known_after, AllFit};
 
 use crate::equal::are_all_known;

@@ -3,8 +3,7 @@ ghost use Rattle.std.specs.Prelude.{◌≡◌, ◌<◌, length, slice_index_or, 
 ghost use Rattle.spec_core.specs.declared.update.Thing.TheVariants as thing;
 ghost use Rattle.ground_problem.specs.Equality as equality;
 ghost use Rattle.ground_problem.specs.Symbols as symbols;
-ghost use Rattle.ground_numbers.specs.Numbered.{negation, disjunction};
-ghost use Rattle.ground_numbers.specs.Numbers.{numbered};
+ghost use Rattle.ground_numbers.specs.{Numbered.{negation, disjunction}, Numbers.{numbered}};
 ghost use Rattle.ground_atoms.specs.declared.formula.Agreement.TheVariants as agreements;
 ghost use Rattle.ground_atoms.specs.Formulas.{form_of, readings_agree};
 ghost use Rattle.lazy_ground.specs.Pairs.{HasAtoms};

@@ -3,10 +3,8 @@
 // The clauses in front of the pairs and behind them are made, but for those of the entry, which are at hand; of these, and of the pairs,
 // those are added that a number names.
 ghost use Rattle.std.specs.Prelude.{◌≡◌, length, OnOk};
-ghost use Rattle.lazy_ground.specs.Lazy.{ArePairs};
-ghost use Rattle.lazy_ground.specs.Kept.{HasClauses};
-ghost use Rattle.lazy_search.specs.Chosen.{IsLayout};
-ghost use Rattle.lazy_search.specs.Refuting.{AreSizes, AreOf};
+ghost use Rattle.lazy_ground.specs.{Lazy.{ArePairs}, Kept.{HasClauses}};
+ghost use Rattle.lazy_search.specs.{Chosen.{IsLayout}, Refuting.{AreSizes, AreOf}};
 
 use instances::kept_clauses;
 use items::Items;

@@ -1,10 +1,8 @@
 // Whether a log refutes a lazy ground problem, by the part of it that the log names.
 ghost use Rattle.std.specs.Prelude.{◌≡◌, length, IfOk, IsTrue};
 ghost use Rattle.needed_clauses.specs.Renaming.{IsPart};
-ghost use Rattle.lazy_ground.specs.Lazy.{lazy_problem, ArePairs};
-ghost use Rattle.lazy_ground.specs.Kept.{HasClauses};
-ghost use Rattle.lazy_search.specs.Chosen.{IsLayout};
-ghost use Rattle.lazy_search.specs.Refuting.{AreSizes, AreOf};
+ghost use Rattle.lazy_ground.specs.{Lazy.{lazy_problem, ArePairs}, Kept.{HasClauses}};
+ghost use Rattle.lazy_search.specs.{Chosen.{IsLayout}, Refuting.{AreSizes, AreOf}};
 ghost use Rattle.lazy_logs.specs.Refuted.{Refutes};
 
 use crate::choosing::{add_named, literals_used, number_of_empty, numbers_named, picks_of};

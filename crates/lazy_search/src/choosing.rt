@@ -1,13 +1,11 @@
 // Some clauses of a lazy ground problem, with the numbers that they have among all.
 ghost use Rattle.std.specs.Prelude.{◌≡◌, ◌≤◌, ◌+◌, ◌++◌, ℕ, List, length, map, take, drop, OnOk};
-ghost use Rattle.std.specs.Prelude.{IfOk, IfSome};
-ghost use Rattle.std.specs.List.{range_with_len};
+ghost use Rattle.std.specs.{Prelude.{IfOk, IfSome}, List.{range_with_len}};
 ghost use Rattle.proof_lines.specs.declared.clause.Lit.{Lit as PlainLit};
 ghost use Rattle.ground_numbers.specs.Clauses.{all_clauses, all_names};
 ghost use Rattle.ground_atoms.specs.Formulas.{form_of};
-ghost use Rattle.lazy_ground.specs.Lazy.{lazy_forms, ArePairs};
+ghost use Rattle.lazy_ground.specs.{Lazy.{lazy_forms, ArePairs}, Kept.{HasClauses}};
 ghost use Rattle.clausify.specs.Kept.{AreClausesOf};
-ghost use Rattle.lazy_ground.specs.Kept.{HasClauses};
 ghost use Rattle.lazy_search.specs.Chosen.{AreAt, StandFrom, IsBehind, IsLayout};
 
 use crate::agreeing::PairAt;

@@ -5,8 +5,7 @@ ghost use Rattle.obligation_list.specs.declared.obligation.Obligation.{Obligatio
 ghost use Rattle.obligation_list.specs.Obligations.{IsObligation};
 ghost use Rattle.sat_core.specs.Answers.{IsRefuted};
 ghost use Rattle.needed_clauses.specs.Renaming.{IsPart};
-ghost use Rattle.lazy_ground.specs.Lazy.{lazy_problem, ArePairs};
-ghost use Rattle.lazy_ground.specs.Kept.{HasClauses};
+ghost use Rattle.lazy_ground.specs.{Lazy.{lazy_problem, ArePairs}, Kept.{HasClauses}};
 ghost use Rattle.lazy_search.specs.Refuting.{AreOf, IsMeasured, IsLazyAnswer, IsStep};
 ghost use Rattle.lazy_search.specs.Refuting.{IsLazyAnswerTo, IsStepTo};
 

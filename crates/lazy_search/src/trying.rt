@@ -2,8 +2,7 @@
 //
 // The interpretation says which constants are equal, which readings are true, and the whole numbers. What the part doesn't name is false.
 // Where that breaks the obligation, it is refuted, and neither the other clauses nor those of equal tuples need to be looked at.
-ghost use Rattle.std.specs.Prelude.{◌≡◌, true, IfOk, IfSome};
-ghost use Rattle.std.specs.List.{list_all};
+ghost use Rattle.std.specs.{Prelude.{◌≡◌, true, IfOk, IfSome}, List.{list_all}};
 ghost use Rattle.spec_core.specs.Fits.{in_state_range};
 ghost use Rattle.obligation_list.specs.Obligations.{IsObligation};
 ghost use Rattle.lazy_search.specs.Refuting.{IsBroken};

@@ -1,8 +1,6 @@
 // Sums of rows, and the combination of two rows in which a place cancels.
-ghost use Rattle.std.specs.Prelude.{◌≡◌, true, ◌≤ℤ◌, ℕ, ℤ, pos, IfOk};
-ghost use Rattle.std.specs.Option.{option_and_then};
-ghost use Rattle.lin_rows.specs.Answers.{Gives};
-ghost use Rattle.lin_rows.specs.Rows.{is_row, Satisfies};
+ghost use Rattle.std.specs.{Prelude.{◌≡◌, true, ◌≤ℤ◌, ℕ, ℤ, pos, IfOk}, Option.{option_and_then}};
+ghost use Rattle.lin_rows.specs.{Answers.{Gives}, Rows.{is_row, Satisfies}};
 ghost use Rattle.lin_rows.specs.Sums.{times_row, plus_row, row_sum};
 
 use crate::number::{is_one, plus, times};

@@ -1,7 +1,6 @@
 // Combining two rows so that a place cancels, a step of the elimination of Fourier and Motzkin.
 ghost use Rattle.std.specs.Prelude.{◌≡◌, ◌*ℤ◌, ◌+ℤ◌, ◌≢◌, true, ◌<ℤ◌, ◌≤ℤ◌, ℕ, ℤ, pos, IfOk};
-ghost use Rattle.lin_rows.specs.Answers.{Gives};
-ghost use Rattle.lin_rows.specs.Rows.{is_row, Satisfies, coefficient_at};
+ghost use Rattle.lin_rows.specs.{Answers.{Gives}, Rows.{is_row, Satisfies, coefficient_at}};
 ghost use Rattle.lin_rows.specs.Cancelling.{first_factor, second_factor, least_factor, combined};
 ghost use Rattle.lin_rows.specs.Numbers.{in_range};
 

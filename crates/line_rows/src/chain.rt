@@ -5,8 +5,7 @@
 ghost use Rattle.std.specs.Prelude.{◌≡◌, List, option_copied, [], MatchResult, IfSome, Ok};
 ghost use Rattle.lin_rows.specs.Rows.{Row as RowView};
 ghost use Rattle.line_rows.specs.Kept.{chain_at, IsChain, HasLast, KeptUntil, Ends};
-ghost use Rattle.line_rows.specs.Refusals.{IsTold};
-ghost use Rattle.line_rows.specs.Steps.{step_row, with_steps, line_rows};
+ghost use Rattle.line_rows.specs.{Refusals.{IsTold}, Steps.{step_row, with_steps, line_rows}};
 
 use crate::kept::{keep_used, kept_at};
 use crate::kept_row::KeptRow;

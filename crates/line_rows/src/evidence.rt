@@ -1,11 +1,9 @@
 // The evidence of undecided verdicts, as far as a reader of a report can check it: too many rows, and numbers beyond the range.
 ghost use Rattle.std.specs.Prelude.{◌≡◌, List, length, ◌<◌, ◌^◌, ◌*ℤ◌, ◌-ℤ◌, pos, int_lt, nat_le, Bool, true, false, IfOk, MatchOption, MatchResult, ◌&&◌, Some, is_none, [], ◌∷◌};
 ghost use Rattle.std.specs.List.{list_all, list_any};
-ghost use Rattle.lin_rows.specs.Numbers.{is_zero};
-ghost use Rattle.lin_rows.specs.Rows.{Row as RowView, coefficient_at};
+ghost use Rattle.lin_rows.specs.{Numbers.{is_zero}, Rows.{Row as RowView, coefficient_at}};
 ghost use Rattle.line_rows.specs.Kept.{kept_at, StepsEnd, KeptUntil, HasKept, step_cancels, all_cancel_in, AreCancelling, first_named, second_named, beyond_in};
-ghost use Rattle.line_rows.specs.Refusals.{IsTold};
-ghost use Rattle.line_rows.specs.Steps.{with_steps, line_rows};
+ghost use Rattle.line_rows.specs.{Refusals.{IsTold}, Steps.{with_steps, line_rows}};
 ghost use Rattle.line_rows.specs.Splits.{other_names, size_at};
 ghost use Rattle.line_rows.specs.Evidence.{cancels_at, cancels_some, cancels, all_cancel, same_row, all_different, in_state, values_fit, rest_with, product_leaves, leaves_state, range_shown};
 

@@ -8,9 +8,9 @@ ghost use Rattle.std.specs.Prelude.{◌≡◌, ℕ, List, ◌<◌, ◌+◌, cond
 ghost use Rattle.std.specs.List.{list_all};
 ghost use Rattle.lin_rows.specs.Rows.{Row as RowView};
 ghost use Rattle.line_rows.specs.Kept.{kept_at, is_done, step_sum, StepsEnd, KeptUntil, HasKeptUntil, HasKept, is_bad, Ends};
-ghost use Rattle.proof_lines.specs.declared.line.Why.TheVariants.{Range as TheRange};
 ghost use Rattle.line_rows.specs.Refusals.{or_broken, IsTold};
 ghost use Rattle.line_rows.specs.Steps.{has_row, lit_rows, used_rows, with_steps, line_rows};
+ghost use Rattle.proof_lines.specs.declared.line.Why.TheVariants.{Range as TheRange};
 
 use crate::chain::{is_chain, refutes_chain};
 use crate::kept_row::KeptRow;

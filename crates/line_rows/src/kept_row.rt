@@ -16,8 +16,7 @@ pub struct KeptRow<'a> {
 
 impl<'a> Model for KeptRow<'a> {
     ghost use Rattle.std.specs.Prelude.{Option, option_and_then, option_copied};
-    ghost use Rattle.std.specs.Option.{option_or};
-    ghost use Rattle.std.specs.Result.{result_ok, result_err};
+    ghost use Rattle.std.specs.{Option.{option_or}, Result.{result_ok, result_err}};
     ghost use Rattle.lin_rows.specs.Rows.{Row};
 
     ghost Value = { Option Row };

@@ -1,7 +1,6 @@
 // The rows of a line: those of its used literals, tightened, then those of its steps.
 ghost use Rattle.std.specs.Prelude.{◌≡◌, true, map, IfOk, IsSome, IsTrue, MatchResult, Some, option_copied};
-ghost use Rattle.std.specs.Option.{option_map};
-ghost use Rattle.std.specs.List.{list_all};
+ghost use Rattle.std.specs.{Option.{option_map}, List.{list_all}};
 ghost use Rattle.lin_rows.specs.Divisors.{tightened};
 ghost use Rattle.proof_lines.specs.declared.line.Why.TheVariants.{Range as TheRange};
 ghost use Rattle.line_rows.specs.Steps.{atom_row, has_row, lit_row, lit_rows, used_rows, step_row, with_steps, line_rows, ends_badly, refutes};

@@ -1,12 +1,9 @@
 // What the rows of a place say of its value, once later places have theirs.
 ghost use Rattle.std.specs.Prelude.{◌≡◌, ◌<◌, ◌≤◌, ◌-ℤ◌, pos, int_lt, cond, true, false, length, take, MatchOption, MatchResult};
-ghost use Rattle.lin_rows.specs.Numbers.{is_zero};
-ghost use Rattle.lin_rows.specs.Rows.{coefficient_at, point_of, sum_from};
+ghost use Rattle.lin_rows.specs.{Numbers.{is_zero}, Rows.{coefficient_at, point_of, sum_from}};
 ghost use Rattle.line_rows.specs.Splits.{rest_at};
-ghost use Rattle.linear_ints.specs.Ceilings.{IsBound, is_beyond};
-ghost use Rattle.linear_ints.specs.Descending.{IsFault, IsFaultAt};
-ghost use Rattle.linear_ints.specs.Fractions.{size};
-ghost use Rattle.linear_ints.specs.Listed.{listed};
+ghost use Rattle.linear_ints.specs.{Ceilings.{IsBound, is_beyond}, Descending.{IsFault, IsFaultAt}};
+ghost use Rattle.linear_ints.specs.{Fractions.{size}, Listed.{listed}};
 ghost use Rattle.linear_ints.specs.Bounds.{IsBoundAt, IsGreatest, IsGreatestOf};
 ghost use Rattle.elimination.specs.Pairs.{place_at};
 

@@ -1,16 +1,13 @@
 // Choosing values, from the place that was eliminated last back to the first.
 ghost use Rattle.std.specs.Prelude.{◌≡◌, ◌<◌, ◌<ℤ◌, ◌+◌, ◌-ℤ◌, pos, int_lt, true, length, map, take, slice_set, IfOk, MatchResult, [], ◌∷◌};
 ghost use Rattle.std.specs.List.{list_all};
-ghost use Rattle.lin_rows.specs.Numbers.{in_range};
-ghost use Rattle.lin_rows.specs.Rows.{is_row, point_of};
-ghost use Rattle.line_rows.specs.Splits.{other_names};
-ghost use Rattle.line_rows.specs.Steps.{row_at};
+ghost use Rattle.lin_rows.specs.{Numbers.{in_range}, Rows.{is_row, point_of}};
+ghost use Rattle.line_rows.specs.{Splits.{other_names}, Steps.{row_at}};
 ghost use Rattle.theory_api.specs.Laws.{IsModel};
 ghost use Rattle.linear_ints.specs.Deciding.{nearest};
 ghost use Rattle.linear_ints.specs.Descending.{AreBounds, AreZeros, IsDescent, IsFaultAt};
-ghost use Rattle.elimination.specs.Pairs.{place_at};
 ghost use Rattle.linear_ints.specs.Stops.{IsStop};
-ghost use Rattle.elimination.specs.Tableaux.{IsElimination};
+ghost use Rattle.elimination.specs.{Pairs.{place_at}, Tableaux.{IsElimination}};
 
 use crate::bounds::{Bound, Fault, FaultAt, side_bound, value_of};
 use elimination::{Stop, Tableau, prefix};

@@ -1,6 +1,5 @@
 // The solver that a clause search asks.
-ghost use Rattle.std.specs.Prelude.{◌≡◌, true, [], IfOk, MatchResult};
-ghost use Rattle.std.specs.List.{list_all};
+ghost use Rattle.std.specs.{Prelude.{◌≡◌, true, [], IfOk, MatchResult}, List.{list_all}};
 ghost use Rattle.lin_rows.specs.Rows.{is_row};
 ghost use Rattle.theory_api.specs.Laws.{IsAnswer, IsBeyond, IsModel, all_below};
 ghost use Rattle.linear_ints.specs.Stops.{IsStop};

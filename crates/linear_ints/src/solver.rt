@@ -1,6 +1,5 @@
 // The solver that a clause search asks.
-ghost use Rattle.std.specs.Prelude.{◌≡◌, true, IfSome, IsTrue};
-ghost use Rattle.std.specs.List.{list_all};
+ghost use Rattle.std.specs.{Prelude.{◌≡◌, true, IfSome, IsTrue}, List.{list_all}};
 ghost use Rattle.lin_rows.specs.Rows.{point_of};
 ghost use Rattle.line_rows.specs.Evidence.{in_state};
 ghost use Rattle.proof_lines.specs.Problems.{row_true};

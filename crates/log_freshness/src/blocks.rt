@@ -11,8 +11,7 @@
 // The masks of a block take 16 bytes for each spot. A clause of a block has at least one in 64 of all spots, and so a block's masks take
 // no more than the literals of its clauses, or than 64 literals would for each.
 ghost use Rattle.std.specs.Prelude.{◌≡◌, ◌++◌, ◌∷◌, ◌<◌, ◌≤◌, ◌||◌, [], true, false, None, Some, IfOk, OnOk, length, slice_index_or};
-ghost use Rattle.std.specs.Int.{bit_at};
-ghost use Rattle.std.specs.List.{list_any};
+ghost use Rattle.std.specs.{Int.{bit_at}, List.{list_any}};
 ghost use Rattle.log_freshness.specs.Index.{MarksAre};
 ghost use Rattle.log_freshness.specs.Blocks.{number_within, block_within, finds_in_blocks, AllFit, BlockFits, BlocksFit, RulesOut, AreNotWithin, BitsAre, PutsNumber, PutsInBlocks, MovesLast, IsEmptyBlock, HasNoClause};
 

@@ -21,9 +21,8 @@
 // literals. Where all are marked the lists are compared, once for a log that isn't fresh.
 ghost use Rattle.std.specs.Prelude.{◌≡◌, ◌+◌, ◌*◌, ◌^◌, ◌<◌, ◌≤◌, ◌||◌, ◌++◌, ◌∷◌, true, cond, is_none, IfOk, OnOk, drop, take, length, is_some, map, slice_index_or, slice_set, Some, None, []};
 ghost use Rattle.std.specs.List.{list_all, list_any};
-ghost use Rattle.proof_lines.specs.Clauses.{sub, holds_both_ways};
+ghost use Rattle.proof_lines.specs.{Clauses.{sub, holds_both_ways}, Numbers.{stands_in}};
 ghost use Rattle.log_freshness.specs.Freshness.{live_of, is_new, each_new};
-ghost use Rattle.proof_lines.specs.Numbers.{stands_in};
 ghost use Rattle.log_freshness.specs.Index.{HasNoEntry, HasNoMark, slot_new, PutsOne, finds, finds_marked, marked, all_marked, lits_marked, any_opposite_marked, marked_both_ways, marked_within, marked_slot_within, sign_number, slot_within, spot, spots, with_marks, MarksAre};
 ghost use Rattle.log_freshness.specs.Blocks.{finds_in_blocks, BlocksFit};
 ghost use Rattle.log_freshness.specs.Puts.{IndexFits, IsIndexOf, PutsClause};

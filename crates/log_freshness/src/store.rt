@@ -6,8 +6,7 @@ ghost use Rattle.std.specs.List.{list_all};
 ghost use Rattle.proof_lines.specs.Clauses.{distinct};
 ghost use Rattle.log_freshness.specs.Held.{most_literals, live_literals};
 ghost use Rattle.log_freshness.specs.Spans.{clause_at, clauses_at, ends_within, is_apart};
-ghost use Rattle.log_freshness.specs.Spans.{marked, counts_of, SpansFit};
-ghost use Rattle.log_freshness.specs.Clearing.{cleared};
+ghost use Rattle.log_freshness.specs.{Spans.{marked, counts_of, SpansFit}, Clearing.{cleared}};
 
 use proof_lines::clause::Lit;
 use std::alloc::{AllocError, Global};

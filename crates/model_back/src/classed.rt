@@ -1,6 +1,5 @@
 // The world that truth values give, and the element of each constant in it.
-ghost use Rattle.std.specs.Prelude.{◌≡◌, IfOk, true, nat_lt, length};
-ghost use Rattle.std.specs.List.{list_all};
+ghost use Rattle.std.specs.{Prelude.{◌≡◌, IfOk, true, nat_lt, length}, List.{list_all}};
 ghost use Rattle.model_back.specs.Classed.{IsClassed};
 
 use crate::equals::equals_of;

@@ -1,7 +1,6 @@
 // The elements of each sort: the classes of its equal constants.
 ghost use Rattle.std.specs.Prelude.{◌≡◌, IfOk, OnOk, []};
-ghost use Rattle.ground_problem.specs.Classes.{any_like, firsts, place_like};
-ghost use Rattle.ground_problem.specs.Constants.{of_sort};
+ghost use Rattle.ground_problem.specs.{Classes.{any_like, firsts, place_like}, Constants.{of_sort}};
 ghost use Rattle.model_back.specs.Equals.{alike_by, with_class};
 
 use crate::equals::{Equal, alike};

@@ -1,9 +1,7 @@
 // The state at the entry.
 ghost use Rattle.std.specs.Prelude.{◌≡◌, IfOk, OnOk, true, false, pos, length, map, slice_index};
-ghost use Rattle.std.specs.Prelude.{slice_index_or};
-ghost use Rattle.std.specs.List.{list_all};
-ghost use Rattle.spec_core.specs.declared.world.World.{World as TheWorld};
-ghost use Rattle.spec_core.specs.State.{reads, nothing};
+ghost use Rattle.std.specs.{Prelude.{slice_index_or}, List.{list_all}};
+ghost use Rattle.spec_core.specs.{declared.world.World.{World as TheWorld}, State.{reads, nothing}};
 ghost use Rattle.spec_core.specs.Fits.{is_state, world_fits, in_state_range};
 ghost use Rattle.ground_atoms.specs.Symbols.{atom_of, integer_of};
 ghost use Rattle.model_back.specs.Filling.{fill_atom, filled, fill_integer, filled_integers};

@@ -1,20 +1,16 @@
 // The values that break an obligation, from an interpretation of its problem.
 ghost use Rattle.std.specs.Prelude.{◌≡◌, IfOk, IfSome, true, nat_lt, pos, length, map};
-ghost use Rattle.std.specs.Prelude.{slice_index, slice_index_or};
-ghost use Rattle.std.specs.List.{list_all};
+ghost use Rattle.std.specs.{Prelude.{slice_index, slice_index_or}, List.{list_all}};
 ghost use Rattle.spec_core.specs.Fits.{in_state_range, world_fits};
-ghost use Rattle.obligation_list.specs.Obligations.{IsObligation};
-ghost use Rattle.obligation_list.specs.Refuting.{IsRefutation};
+ghost use Rattle.obligation_list.specs.{Obligations.{IsObligation}, Refuting.{IsRefutation}};
 ghost use Rattle.proof_lines.specs.Problems.{atom_true, meaning_of};
-ghost use Rattle.ground_problem.specs.Symbols.{all_true};
-ghost use Rattle.ground_problem.specs.Constants.{constants_of};
+ghost use Rattle.ground_problem.specs.{Symbols.{all_true}, Constants.{constants_of}};
 ghost use Rattle.ground_problem.specs.Problem.{formulas_of};
 ghost use Rattle.ground_numbers.specs.Numbered.{all_hold};
 ghost use Rattle.ground_numbers.specs.Problem.{kind_of, table_of, numbered_of, interpretation_of};
 ghost use Rattle.ground_atoms.specs.Calls.{calls_of};
 ghost use Rattle.instances.specs.Ground.{IsGrounded};
-ghost use Rattle.model_back.specs.Calls.{call_by};
-ghost use Rattle.model_back.specs.Witnesses.{IsGivenBy, IsStateFor};
+ghost use Rattle.model_back.specs.{Calls.{call_by}, Witnesses.{IsGivenBy, IsStateFor}};
 
 use crate::calls::calls_at;
 use crate::classed::{Classed, world_of};

@@ -1,6 +1,5 @@
 // The world that an interpretation gives.
-ghost use Rattle.std.specs.Prelude.{◌≡◌, IfOk, length, map, slice_index};
-ghost use Rattle.std.specs.List.{range_with_len};
+ghost use Rattle.std.specs.{Prelude.{◌≡◌, IfOk, length, map, slice_index}, List.{range_with_len}};
 
 use crate::state::element_of;
 use items::Items;

@@ -1,6 +1,5 @@
 // A log of a part, with the numbers of the whole problem.
-ghost use Rattle.std.specs.Prelude.{◌≡◌, map, IfOk};
-ghost use Rattle.std.specs.List.{list_all};
+ghost use Rattle.std.specs.{Prelude.{◌≡◌, map, IfOk}, List.{list_all}};
 ghost use Rattle.needed_clauses.specs.Renaming.{number_in, lit_by, line_by, is_plain_line};
 
 use crate::testing::{lit_in, number_in};

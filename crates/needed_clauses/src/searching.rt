@@ -4,8 +4,7 @@ ghost use Rattle.std.specs.List.{list_all};
 ghost use Rattle.proof_lines.specs.Problems.{fits, has_good_row};
 ghost use Rattle.diff_bounds.specs.Differences.{problem_fits};
 ghost use Rattle.sat_core.specs.Answers.{IsAnswer, IsModelOf, IsRefuted};
-ghost use Rattle.needed_clauses.specs.Renaming.{IsPart};
-ghost use Rattle.needed_clauses.specs.Rounds.{IsRound, IsAnsweredByAny};
+ghost use Rattle.needed_clauses.specs.{Renaming.{IsPart}, Rounds.{IsRound, IsAnsweredByAny}};
 
 use crate::judging::{Taken, take_each_false, take_false, values_by};
 use crate::parts::{Part, number_of, part_of};

@@ -2,8 +2,7 @@
 // read without building a state.
 
 ghost use Rattle.std.specs.Prelude.{◌≡◌, ◌<◌, ◌↔◌, IsTrue, true, length, is_none, []};
-ghost use Rattle.spec_core.specs.State.{reads};
-ghost use Rattle.spec_core.specs.Specification.{op_of, places_of};
+ghost use Rattle.spec_core.specs.{State.{reads}, Specification.{op_of, places_of}};
 ghost use Rattle.spec_core.specs.Meaning.{invariant_line, inv, pre};
 ghost use Rattle.spec_core.specs.Fits.{fits_places, world_fits, call_fits, is_state};
 ghost use Rattle.effectors.specs.Effect.{after};

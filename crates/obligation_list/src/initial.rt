@@ -1,11 +1,9 @@
 // Whether a state reads as the initial one, without memory: the elements of a tuple stand in an array on the stack.
 
-ghost use Rattle.std.specs.Prelude.{◌≡◌, ◌+◌, ◌≤◌, length, take};
-ghost use Rattle.std.specs.List.{list_all};
-ghost use Rattle.spec_core.specs.State.{reads};
-ghost use Rattle.spec_core.specs.Choices.{all_below, all_choices};
-ghost use Rattle.obligation_list.specs.Starting.{starts_at, starts_everywhere, starts};
+ghost use Rattle.std.specs.{Prelude.{◌≡◌, ◌+◌, ◌≤◌, length, take}, List.{list_all}};
+ghost use Rattle.spec_core.specs.{State.{reads}, Choices.{all_below, all_choices}};
 ghost use Rattle.spec_core.specs.Specification.{relation_places, counter_keys};
+ghost use Rattle.obligation_list.specs.Starting.{starts_at, starts_everywhere, starts};
 
 use crate::listing::sizes_of;
 use spec_core::{Spec, Thing, World};

@@ -1,9 +1,7 @@
 // Lines of a specification, in a state and after a call. Nothing here takes memory.
 
-ghost use Rattle.std.specs.Prelude.{◌≡◌, ◌<◌, true, length};
-ghost use Rattle.std.specs.List.{list_all};
-ghost use Rattle.spec_core.specs.Specification.{op_of};
-ghost use Rattle.spec_core.specs.State.{reads};
+ghost use Rattle.std.specs.{Prelude.{◌≡◌, ◌<◌, true, length}, List.{list_all}};
+ghost use Rattle.spec_core.specs.{Specification.{op_of}, State.{reads}};
 ghost use Rattle.spec_core.specs.Meaning.{invariant_line, pre};
 ghost use Rattle.spec_core.specs.Fits.{in_state_range, fits_places, world_fits, call_fits};
 ghost use Rattle.spec_core.specs.Fits.{line_fits};

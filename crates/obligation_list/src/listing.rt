@@ -1,10 +1,8 @@
 // The list of a specification's obligations.
 
 ghost use Rattle.std.specs.Prelude.{◌≡◌, ◌<◌, ◌≤◌, ◌++◌, ◌∷◌, [], ℕ, true, cond, map, length, IfOk};
-ghost use Rattle.std.specs.Prelude.{OnOk};
-ghost use Rattle.std.specs.List.{filter, flat_map, Contains};
-ghost use Rattle.spec_core.specs.World.{below};
-ghost use Rattle.spec_core.specs.Specification.{Specification, op_of};
+ghost use Rattle.std.specs.{Prelude.{OnOk}, List.{filter, flat_map, Contains}};
+ghost use Rattle.spec_core.specs.{World.{below}, Specification.{Specification, op_of}};
 ghost use Rattle.obligation_list.specs.Obligations.{writes, either_writes, things};
 ghost use Rattle.obligation_list.specs.Obligations.{init_obligations, safety_of, commute_of};
 ghost use Rattle.obligation_list.specs.Obligations.{commute_from, stable_of, stable_from};

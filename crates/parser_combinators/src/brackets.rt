@@ -2,8 +2,7 @@
 
 ghost use Rattle.std.specs.Prelude.{◌≡◌};
 ghost use Rattle.parser_combinators.specs.declared.token.Key.TheVariants as keys;
-ghost use Rattle.parser_combinators.specs.Gives.{Gives};
-ghost use Rattle.parser_combinators.specs.Words.{is_key as key_test};
+ghost use Rattle.parser_combinators.specs.{Gives.{Gives}, Words.{is_key as key_test}};
 ghost use Rattle.parser_combinators.specs.Read.{key_at, sign_at};
 
 use crate::fault::ReadError;

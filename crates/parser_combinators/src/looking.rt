@@ -4,8 +4,7 @@ ghost use Rattle.std.specs.Prelude.{◌≡◌};
 ghost use Rattle.parser_combinators.specs.Gives.{Gives};
 ghost use Rattle.parser_combinators.specs.Words.{kind_of, next, seen, is_key as key_test};
 ghost use Rattle.parser_combinators.specs.Words.{is_name as name_test, is_number as number_test};
-ghost use Rattle.parser_combinators.specs.Words.{name_kind};
-ghost use Rattle.parser_combinators.specs.Read.{key_at, sign_at};
+ghost use Rattle.parser_combinators.specs.{Words.{name_kind}, Read.{key_at, sign_at}};
 
 use crate::fault::ReadError;
 use crate::token::{Key, Kind, Symbol, Token, Version};

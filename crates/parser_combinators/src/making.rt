@@ -1,8 +1,7 @@
 // From bytes and their words to tokens.
 
 ghost use Rattle.std.specs.Prelude.{◌≡◌, ◌+◌, ◌≤◌, length, true, false, IfOk};
-ghost use Rattle.word_cut.specs.Texts.{is_word, is_long_number};
-ghost use Rattle.word_cut.specs.Words.{IsCut, Stands};
+ghost use Rattle.word_cut.specs.{Texts.{is_word, is_long_number}, Words.{IsCut, Stands}};
 ghost use Rattle.parser_combinators.specs.Texts.{key_text as text_for, is_sign};
 ghost use Rattle.parser_combinators.specs.Texts.{key_from, key_of as key_for};
 ghost use Rattle.parser_combinators.specs.Texts.{symbol_of as symbol_for};

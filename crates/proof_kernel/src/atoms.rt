@@ -21,8 +21,7 @@ pub struct Atoms {
 }
 
 impl Model for Atoms {
-    ghost use Rattle.std.specs.Prelude.{List, ℕ, ℤ, ◌≡◌};
-    ghost use Rattle.std.specs.List.{list_any};
+    ghost use Rattle.std.specs.{Prelude.{List, ℕ, ℤ, ◌≡◌}, List.{list_any}};
     ghost use Rattle.proof_lines.specs.declared.problem.AtomKind.{AtomKind};
     ghost use Rattle.line_rows.specs.Splits.{is_at_most};
     ghost use Rattle.proof_kernel.specs.Atoms.{has_pair};

@@ -4,10 +4,9 @@ ghost use Rattle.std.specs.List.{list_all, list_any};
 ghost use Rattle.lin_rows.specs.Rows.{is_row, places_below};
 ghost use Rattle.proof_lines.specs.Clauses.{is_empty, distinct};
 ghost use Rattle.proof_lines.specs.Problems.{Meaning, makes_true, atoms_below};
-ghost use Rattle.log_freshness.specs.Held.{most_literals, live_literals};
-ghost use Rattle.log_freshness.specs.Freshness.{live_of};
-ghost use Rattle.proof_kernel.specs.Rules.{State, StateFits, start, grown, live_clause, is_live, resolved, combined, split, split_after, named, dropped, cleared, next, holds};
 ghost use Rattle.proof_lines.specs.Numbers.{are_different};
+ghost use Rattle.log_freshness.specs.{Held.{most_literals, live_literals}, Freshness.{live_of}};
+ghost use Rattle.proof_kernel.specs.Rules.{State, StateFits, start, grown, live_clause, is_live, resolved, combined, split, split_after, named, dropped, cleared, next, holds};
 ghost use Rattle.proof_kernel.specs.Evidence.{is_fresh, rows_hold, range_holds};
 ghost use Rattle.line_rows.specs.Refusals.{IsTold};
 

@@ -49,8 +49,7 @@ pub struct Clause {
 
 impl Model for Clause {
     ghost use Rattle.std.specs.Prelude.{List, ◌≡◌, true};
-    ghost use Rattle.proof_lines.specs.declared.clause.Lit.{Lit};
-    ghost use Rattle.proof_lines.specs.Clauses.{distinct};
+    ghost use Rattle.proof_lines.specs.{declared.clause.Lit.{Lit}, Clauses.{distinct}};
 
     ghost Value = { List Lit };
 

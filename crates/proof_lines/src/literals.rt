@@ -110,8 +110,7 @@ pub struct Literals {
 
 impl Model for Literals {
     ghost use Rattle.std.specs.Prelude.{List};
-    ghost use Rattle.proof_lines.specs.declared.clause.Lit.{Lit};
-    ghost use Rattle.proof_lines.specs.Forms.{literals};
+    ghost use Rattle.proof_lines.specs.{declared.clause.Lit.{Lit}, Forms.{literals}};
 
     ghost Value = { List Lit };
 

@@ -1,6 +1,5 @@
 // Problems: clauses over plain atoms and over atoms that stand for rows.
-ghost use Rattle.std.specs.Prelude.{◌≡◌, ◌↔◌, true, IfOk, IfSome, IsSome, List};
-ghost use Rattle.std.specs.List.{list_all};
+ghost use Rattle.std.specs.{Prelude.{◌≡◌, ◌↔◌, true, IfOk, IfSome, IsSome, List}, List.{list_all}};
 ghost use Rattle.proof_lines.specs.Problems.{fits, has_good_row, names_below, atoms_below};
 
 use crate::clause::{Clause, Lit};

@@ -1,13 +1,10 @@
 // What follows from the definitions: reading line by line is no second format.
 
 ghost use Rattle.std.specs.Prelude.{◌≡◌, ℕ, List, true};
-ghost use Rattle.spec_core.specs.Specification.{Specification};
-ghost use Rattle.spec_core.specs.Typed.{is_specification};
+ghost use Rattle.spec_core.specs.{Specification.{Specification}, Typed.{is_specification}};
 ghost use Rattle.proof_report.specs.declared.event.Event.{Event};
-ghost use Rattle.proof_report.specs.Verdicts.{ReportForm, is_report};
-ghost use Rattle.proof_report.specs.Events.{report_lines, text};
-ghost use Rattle.proof_report.specs.Feeding.{IsFed};
-ghost use Rattle.proof_report.specs.Gathering.{report_of};
+ghost use Rattle.proof_report.specs.{Verdicts.{ReportForm, is_report}, Events.{report_lines, text}};
+ghost use Rattle.proof_report.specs.{Feeding.{IsFed}, Gathering.{report_of}};
 
 /// Lines that are fed to the end without a fault are the text of a report, namely of the one that they say.
 pub fn law_fed_is_text()

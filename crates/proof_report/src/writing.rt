@@ -1,12 +1,10 @@
 // Writing a report: the lines before the blocks, a block, and the lines behind them.
 
 ghost use Rattle.std.specs.Prelude.{◌≡◌, ◌++◌, ◌+◌, ◌<◌, ◌^◌, OnOk, OnErr, IfOk, true, length};
-ghost use Rattle.spec_core.specs.State.{reads};
+ghost use Rattle.spec_core.specs.{State.{reads}, Fits.{is_state}};
 ghost use Rattle.spec_states.specs.StateText.{state_text};
-ghost use Rattle.spec_core.specs.Fits.{is_state};
 ghost use Rattle.obligation_list.specs.Obligations.{IsObligation};
-ghost use Rattle.proof_report.specs.Verdicts.{obligation_count};
-ghost use Rattle.proof_report.specs.Events.{outcome_of};
+ghost use Rattle.proof_report.specs.{Verdicts.{obligation_count}, Events.{outcome_of}};
 ghost use Rattle.proof_report.specs.Texts.{log_text, sizes_text, consts_text, calls_text, witness_text, rows_text, range_text, cause_text, verdict_text, block_text, head_text, end_text, CanStand};
 
 use crate::names::{const_name, sort_name};

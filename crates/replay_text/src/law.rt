@@ -1,12 +1,10 @@
 // What a replay of a safe specification keeps.
 
 ghost use Rattle.std.specs.Prelude.{◌≡◌, ◌≢◌, ℕ, true, List};
-ghost use Rattle.spec_core.specs.declared.world.World.{World};
-ghost use Rattle.spec_core.specs.Fits.{is_world};
+ghost use Rattle.spec_core.specs.{declared.world.World.{World}, Fits.{is_world}};
 ghost use Rattle.obligation_list.specs.Breaking.{Safe};
 ghost use Rattle.replica_replay.specs.declared.step.Step.{Step};
-ghost use Rattle.replay_text.specs.Course.{course};
-ghost use Rattle.replay_text.specs.Recorded.{schedule_status};
+ghost use Rattle.replay_text.specs.{Course.{course}, Recorded.{schedule_status}};
 ghost use Rattle.replay_text.specs.Safely.{GoesSafely};
 
 use spec_core::Spec;

@@ -5,12 +5,12 @@ ghost use Rattle.std.specs.Prelude.{get_or, IfOk, OnOk, codes};
 ghost use Rattle.spec_core.specs.Fits.{world_fits};
 ghost use Rattle.spec_states.specs.StateText.{state_text};
 ghost use Rattle.replay_text.specs.Course.{state_at, replica_of, course_from, course};
-ghost use Rattle.replica_replay.specs.Held.{none_held};
 ghost use Rattle.replay_text.specs.Text.{step_lines, stop_line, replica_text, replica_texts};
 ghost use Rattle.replay_text.specs.Text.{replay_text, replay_status, status_of};
 ghost use Rattle.replay_text.specs.Reached.{HasReplica, IsNew, SameSetting, broken_of, IsStepped};
 ghost use Rattle.replay_text.specs.Reached.{IsReached};
 ghost use Rattle.replay_text.specs.Asked.{AllHeld, OthersHeld, IsFrontElsewhere, LedBy};
+ghost use Rattle.replica_replay.specs.Held.{none_held};
 
 use crate::lines::{push, push_number, push_step, push_stop};
 use crate::stop::Stop;

@@ -5,8 +5,7 @@
 
 ghost use Rattle.std.specs.Prelude.{◌≡◌, ℕ, true, Option, Result};
 ghost use Rattle.std.specs.declared.alloc.AllocError.{AllocError as NoMemory};
-ghost use Rattle.spec_core.specs.State.{Listing};
-ghost use Rattle.spec_core.specs.declared.world.Call.{Call as CallValue};
+ghost use Rattle.spec_core.specs.{State.{Listing}, declared.world.Call.{Call as CallValue}};
 ghost use Rattle.spec_core.specs.Fits.{world_fits, call_fits, is_state};
 ghost use Rattle.effectors.specs.declared.applying.ApplyRefused.{ApplyRefused as Refused};
 ghost use Rattle.replica_host.specs.Native.{IsEffect, IsGuard, Meets};
@@ -56,10 +55,8 @@ pub struct Native<'a, E: Effect, G: Guard> {
 }
 
 impl<'a, E: Effect, G: Guard> Model for Native<'a, E, G> {
-    ghost use Rattle.std.specs.Prelude.{◌≡◌, true};
-    ghost use Rattle.std.specs.Coded.{codes};
-    ghost use Rattle.spec_core.specs.Code.{coded_form};
-    ghost use Rattle.spec_core.specs.Fits.{world_fits};
+    ghost use Rattle.std.specs.{Prelude.{◌≡◌, true}, Coded.{codes}};
+    ghost use Rattle.spec_core.specs.{Code.{coded_form}, Fits.{world_fits}};
     ghost use Rattle.replica_host.specs.Native.{IsEffect, IsGuard, Meets, Setting};
 
     ghost Value = { Setting };

@@ -5,21 +5,15 @@
 // the rules.
 
 ghost use Rattle.std.specs.Prelude.{◌≡◌, ℕ, ◌<◌, ◌≤◌, ◌^◌, ◌⊎◌, ◌&&◌, not, true, length, map};
-ghost use Rattle.std.specs.Prelude.{Option, None, Some, IfOk, IfErr, OnOk};
-ghost use Rattle.std.specs.Option.{option_or};
-ghost use Rattle.std.specs.List.{position_from};
-ghost use Rattle.std.specs.Str.{bytes_eq};
-ghost use Rattle.spec_core.specs.Limits.{most_operations};
-ghost use Rattle.spec_core.specs.State.{reads};
+ghost use Rattle.std.specs.{Prelude.{Option, None, Some, IfOk, IfErr, OnOk}, Option.{option_or}};
+ghost use Rattle.std.specs.{List.{position_from}, Str.{bytes_eq}};
+ghost use Rattle.spec_core.specs.{Limits.{most_operations}, State.{reads}};
 ghost use Rattle.spec_core.specs.Fits.{call_fits, is_state};
-ghost use Rattle.effectors.specs.Effect.{after};
-ghost use Rattle.effectors.specs.Spare.{IsSpare};
-ghost use Rattle.token_rules.specs.Conflict.{conflicts};
+ghost use Rattle.effectors.specs.{Effect.{after}, Spare.{IsSpare}};
+ghost use Rattle.token_rules.specs.{Conflict.{conflicts}, Rivals.{rivals_of}};
 ghost use Rattle.replica_replay.specs.Held.{is_taken};
 ghost use Rattle.replica_replay.specs.Refusals.{least_unseen, lines_asked, call_asked};
-ghost use Rattle.replica_replay.specs.Refusals.{taking_asked, effect_refused};
-ghost use Rattle.replica_replay.specs.Holding.{calls_of};
-ghost use Rattle.token_rules.specs.Rivals.{rivals_of};
+ghost use Rattle.replica_replay.specs.{Refusals.{taking_asked, effect_refused}, Holding.{calls_of}};
 ghost use Rattle.replica_replay.specs.Steps.{operation_named as operation_named_of};
 
 use crate::conditions::observes_line;

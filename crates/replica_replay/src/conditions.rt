@@ -1,10 +1,7 @@
 // Lines of a call that are false.
 
-ghost use Rattle.std.specs.Prelude.{◌≡◌, ◌+◌, true, Option};
-ghost use Rattle.std.specs.Option.{option_map};
-ghost use Rattle.spec_core.specs.Specification.{op_of};
-ghost use Rattle.spec_core.specs.State.{reads};
-ghost use Rattle.spec_core.specs.Meaning.{first_false};
+ghost use Rattle.std.specs.{Prelude.{◌≡◌, ◌+◌, true, Option}, Option.{option_map}};
+ghost use Rattle.spec_core.specs.{Specification.{op_of}, State.{reads}, Meaning.{first_false}};
 ghost use Rattle.spec_core.specs.Fits.{world_fits, call_fits};
 
 use spec_core::{Call, Spec, World, observes_broken_at, requires_broken_at};

@@ -6,8 +6,7 @@
 ghost use Rattle.std.specs.Prelude.{◌≡◌, ◌+◌, ◌<◌, ◌^◌, true, [], ◌∷◌, ◌++◌, length, take, set};
 ghost use Rattle.std.specs.Prelude.{get_or, slice_get, replicate, None, Some, All, List, OnOk};
 ghost use Rattle.std.specs.Prelude.{OnErr, IfOk, IfErr};
-ghost use Rattle.spec_core.specs.State.{reads};
-ghost use Rattle.spec_core.specs.Meaning.{initial as initial_of};
+ghost use Rattle.spec_core.specs.{State.{reads}, Meaning.{initial as initial_of}};
 ghost use Rattle.spec_core.specs.Fits.{world_fits, call_fits, is_state};
 ghost use Rattle.replica_replay.specs.Holding.{orders_of, seen_by_event, AreSpares, Leads};
 

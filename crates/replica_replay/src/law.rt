@@ -1,7 +1,6 @@
 // Why a replay is an execution.
 
-ghost use Rattle.replica_replay.specs.Held.{Held, IsHeld};
-ghost use Rattle.replica_replay.specs.Steps.{outcome, held_after};
+ghost use Rattle.replica_replay.specs.{Held.{Held, IsHeld}, Steps.{outcome, held_after}};
 
 use crate::step::Step;
 use spec_core::{Spec, World};

@@ -1,10 +1,8 @@
 // What a replica has taken: the events in their order, with a mark for each, so that one look-up says whether an event was taken.
 
 ghost use Rattle.std.specs.Prelude.{◌≡◌, ℕ, ◌<◌, Bool, false, [], ◌∷◌, ◌++◌, length, get_or, OnOk};
-ghost use Rattle.std.specs.Prelude.{OnErr};
-ghost use Rattle.std.specs.List.{find};
-ghost use Rattle.replica_replay.specs.Held.{is_taken};
-ghost use Rattle.replica_replay.specs.Refusals.{first_untaken};
+ghost use Rattle.std.specs.{Prelude.{OnErr}, List.{find}};
+ghost use Rattle.replica_replay.specs.{Held.{is_taken}, Refusals.{first_untaken}};
 
 use std::alloc::{AllocError, Global};
 use std::marker::Model;

@@ -2,8 +2,7 @@
 
 ghost use Rattle.std.specs.Prelude.{◌≡◌, ℕ, ◌<◌, ◌≤◌, ◌⊎◌, true, [], length, map, replicate};
 ghost use Rattle.std.specs.Prelude.{get_or, slice_get, List, Some, Result, Err, IfOk, OnOk, OnErr};
-ghost use Rattle.spec_core.specs.State.{reads};
-ghost use Rattle.spec_core.specs.Fits.{world_fits, is_state};
+ghost use Rattle.spec_core.specs.{State.{reads}, Fits.{world_fits, is_state}};
 ghost use Rattle.replica_replay.specs.Held.{IsHeld, none_held};
 ghost use Rattle.replica_replay.specs.Steps.{state_of, replica_in, called, took, outcome};
 ghost use Rattle.replica_replay.specs.Steps.{held_after, answer};

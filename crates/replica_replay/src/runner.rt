@@ -1,15 +1,11 @@
 // Who evaluates a call's precondition and applies its effect.
 
-ghost use Rattle.std.specs.Prelude.{◌≡◌, ◌+◌, true, IfOk, OnOk, Err, Option};
-ghost use Rattle.std.specs.Option.{option_map};
+ghost use Rattle.std.specs.{Prelude.{◌≡◌, ◌+◌, true, IfOk, OnOk, Err, Option}, Option.{option_map}};
 ghost use Rattle.spec_core.specs.declared.world.World.{World as Setting};
-ghost use Rattle.spec_core.specs.Specification.{Specification, op_of};
-ghost use Rattle.spec_core.specs.State.{reads};
-ghost use Rattle.spec_core.specs.Meaning.{first_false};
-ghost use Rattle.spec_core.specs.Fits.{world_fits, call_fits, is_state};
+ghost use Rattle.spec_core.specs.{Specification.{Specification, op_of}, State.{reads}};
+ghost use Rattle.spec_core.specs.{Meaning.{first_false}, Fits.{world_fits, call_fits, is_state}};
 ghost use Rattle.effectors.specs.Effect.{after, after_call};
-ghost use Rattle.effectors.specs.Beyond.{Beyond, AllInRange, IsFirstBeyond};
-ghost use Rattle.effectors.specs.Spare.{IsSpare};
+ghost use Rattle.effectors.specs.{Beyond.{Beyond, AllInRange, IsFirstBeyond}, Spare.{IsSpare}};
 
 use crate::conditions::requires_line;
 use effectors::{ApplyRefused, apply, apply_over, caught_up};

@@ -1,10 +1,7 @@
 // A call that is tried in a state.
 
-ghost use Rattle.std.specs.Prelude.{◌≡◌, ◌+◌, true, None, IfOk};
-ghost use Rattle.std.specs.Option.{option_map};
-ghost use Rattle.spec_core.specs.Specification.{op_of};
-ghost use Rattle.spec_core.specs.Meaning.{first_false};
-ghost use Rattle.spec_core.specs.State.{reads};
+ghost use Rattle.std.specs.{Prelude.{◌≡◌, ◌+◌, true, None, IfOk}, Option.{option_map}};
+ghost use Rattle.spec_core.specs.{Specification.{op_of}, Meaning.{first_false}, State.{reads}};
 ghost use Rattle.spec_core.specs.Fits.{call_fits, is_state};
 ghost use Rattle.effectors.specs.Spare.{IsSpare};
 ghost use Rattle.replica_replay.specs.Tried.{IsTried};

@@ -1,22 +1,17 @@
 // What follows from the definitions: bytes are read exactly where they are those of a report.
 
 ghost use Rattle.std.specs.Prelude.{◌≡◌, ℕ, List, [], map, true, None};
-ghost use Rattle.spec_core.specs.Specification.{Specification};
-ghost use Rattle.spec_core.specs.Typed.{is_specification};
-ghost use Rattle.report_lines.specs.Words.{parts};
+ghost use Rattle.spec_core.specs.{Specification.{Specification}, Typed.{is_specification}};
+ghost use Rattle.report_lines.specs.{Words.{parts}, Heads.{title_format, budget_format}};
 ghost use Rattle.proof_report.specs.declared.event.Event.{Event};
 ghost use Rattle.proof_report.specs.Verdicts.{ReportForm, is_report, is_witness};
-ghost use Rattle.proof_report.specs.Events.{report_lines};
-ghost use Rattle.proof_report.specs.Feeding.{IsFed};
-ghost use Rattle.proof_report.specs.Gathering.{report_of};
+ghost use Rattle.proof_report.specs.{Events.{report_lines}, Feeding.{IsFed}, Gathering.{report_of}};
 ghost use Rattle.proof_report.specs.declared.verdict.Verdict.{Verdict};
 ghost use Rattle.report_bytes.specs.Bytes.{report_bytes, lines_of, unended};
+ghost use Rattle.report_bytes.specs.Showing.{AllStand, AllFit, CanBeShown, shown_by, report_on};
+ghost use Rattle.report_bytes.specs.{Showing.{written_text}, Reading.{first_fault}};
 ghost use Rattle.obligation_list.specs.declared.obligation.Obligation.{Obligation};
 ghost use Rattle.obligation_list.specs.declared.witness.Witness.{Witness};
-ghost use Rattle.report_lines.specs.Heads.{title_format, budget_format};
-ghost use Rattle.report_bytes.specs.Showing.{AllStand, AllFit, CanBeShown, shown_by, report_on};
-ghost use Rattle.report_bytes.specs.Showing.{written_text};
-ghost use Rattle.report_bytes.specs.Reading.{first_fault};
 
 /// Bytes that end with a line feed, and whose lines are fed to the end without a fault, are those of the report that they say.
 pub fn law_bytes_are_text()

@@ -4,8 +4,7 @@ ghost use Rattle.std.specs.Prelude.{◌≡◌, OnOk, IfOk, IfErr, Some};
 ghost use Rattle.report_reader.specs.Reader.{first_reader};
 ghost use Rattle.report_bytes.specs.Collecting.{verdict_of, with_line, with_end, collect, IsTaken};
 ghost use Rattle.report_bytes.specs.Collecting.{AreTaken, IsRefused, IsEnded, AreRead, IsFaulty};
-ghost use Rattle.report_bytes.specs.Collecting.{Holds, nothing_kept, budget_in};
-ghost use Rattle.report_bytes.specs.Reading.{IsRead};
+ghost use Rattle.report_bytes.specs.{Collecting.{Holds, nothing_kept, budget_in}, Reading.{IsRead}};
 
 use crate::lines::next_line;
 use items::Items;

@@ -2,8 +2,7 @@
 
 ghost use Rattle.std.specs.Prelude.{◌≡◌, ◌≤◌, ◌==◌, true, IfSome, Some, length, take};
 ghost use Rattle.std.specs.List.{list_all, position_or_len};
-ghost use Rattle.word_cut.specs.Texts.{is_digit};
-ghost use Rattle.word_cut.specs.Whole.{number_of, size_read, read_of, greatest};
+ghost use Rattle.word_cut.specs.{Texts.{is_digit}, Whole.{number_of, size_read, read_of, greatest}};
 
 use word_cut::{read_number, read_whole};
 

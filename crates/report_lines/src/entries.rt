@@ -3,8 +3,7 @@
 ghost use Rattle.word_cut.specs.Whole.{size_read};
 ghost use Rattle.report_lines.specs.Fields.{count_format, integer_format};
 ghost use Rattle.report_lines.specs.Entries.{with_sign, literal_of, literal_format, small_literal};
-ghost use Rattle.report_lines.specs.Entries.{step_format};
-ghost use Rattle.report_lines.specs.Words.{Gives};
+ghost use Rattle.report_lines.specs.{Entries.{step_format}, Words.{Gives}};
 
 use crate::digits::word_number;
 use crate::fields::{count, integer, pair};

@@ -1,11 +1,9 @@
 // The lines of evidence: what they say, and reading them.
 
-ghost use Rattle.std.specs.Prelude.{◌≡◌, ◌∷◌, ◌++◌, [], OnOk};
-ghost use Rattle.std.specs.Fmt.{decimal};
+ghost use Rattle.std.specs.{Prelude.{◌≡◌, ◌∷◌, ◌++◌, [], OnOk}, Fmt.{decimal}};
 ghost use Rattle.proof_lines.specs.declared.line.RangeWhat.TheVariants.{Product};
 ghost use Rattle.std.proofs.Common.{inl, inr};
-ghost use Rattle.report_lines.specs.Formats.{both, mapped};
-ghost use Rattle.report_lines.specs.Fields.{count_format};
+ghost use Rattle.report_lines.specs.{Formats.{both, mapped}, Fields.{count_format}};
 ghost use Rattle.report_lines.specs.Evidence.{rows_format, product_words, values_words, to_range};
 ghost use Rattle.report_lines.specs.Evidence.{range_word as range_word_of, what_words};
 ghost use Rattle.report_lines.specs.Evidence.{range_format};

@@ -2,8 +2,7 @@
 
 ghost use Rattle.report_lines.specs.Formats.{number, both, behind};
 ghost use Rattle.report_lines.specs.Fields.{count_format, integer_format, value_format};
-ghost use Rattle.report_lines.specs.Fields.{element_format};
-ghost use Rattle.report_lines.specs.Words.{left, Gives};
+ghost use Rattle.report_lines.specs.{Fields.{element_format}, Words.{left, Gives}};
 
 use crate::digits::{word_integer, word_number};
 use crate::words::{ReadError, Words, keyword, next, next_number};

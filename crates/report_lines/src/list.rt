@@ -1,8 +1,7 @@
 // Lists behind their number.
 
 ghost use Rattle.std.specs.Prelude.{◌≡◌, ◌++◌, [], IfOk, OnOk};
-ghost use Rattle.report_lines.specs.Formats.{Format, counted, times_at};
-ghost use Rattle.report_lines.specs.Fields.{most_count};
+ghost use Rattle.report_lines.specs.{Formats.{Format, counted, times_at}, Fields.{most_count}};
 ghost use Rattle.report_lines.specs.Words.{left, spaced, Gives};
 
 use crate::fields;

@@ -1,7 +1,6 @@
 // Reading the lines of a log.
 
-ghost use Rattle.std.specs.Prelude.{◌≡◌, ◌∷◌, ◌++◌, [], OnOk};
-ghost use Rattle.std.specs.Fmt.{decimal, signed_decimal};
+ghost use Rattle.std.specs.{Prelude.{◌≡◌, ◌∷◌, ◌++◌, [], OnOk}, Fmt.{decimal, signed_decimal}};
 ghost use Rattle.proof_lines.specs.declared.line.Line.TheVariants.{Resolve, Farkas, Drop};
 ghost use Rattle.std.proofs.Common.{inl, inr};
 ghost use Rattle.report_lines.specs.Formats.{mapped};

@@ -1,8 +1,7 @@
 // Names, found by the place from which they are due.
 
 ghost use Rattle.std.specs.Prelude.{◌≡◌, ◌<◌, ◌≤◌, List, ℕ, map, drop, length};
-ghost use Rattle.report_lines.specs.Formats.{place_from, among};
-ghost use Rattle.report_lines.specs.Words.{left, Gives};
+ghost use Rattle.report_lines.specs.{Formats.{place_from, among}, Words.{left, Gives}};
 
 use crate::words::{ReadError, Words, next};
 use spec_core::{Counter, Operation, Relation};

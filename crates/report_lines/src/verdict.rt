@@ -1,11 +1,9 @@
 // The first two lines of a block: what they say, and reading them.
 
-ghost use Rattle.std.specs.Prelude.{◌≡◌, ◌+◌, ◌∷◌, ◌++◌, [], codes, OnOk};
-ghost use Rattle.std.specs.Fmt.{decimal};
+ghost use Rattle.std.specs.{Prelude.{◌≡◌, ◌+◌, ◌∷◌, ◌++◌, [], codes, OnOk}, Fmt.{decimal}};
 ghost use Rattle.report_lines.specs.Blocks.{invariant_name, operation_name, thing_name};
 ghost use Rattle.report_lines.specs.Blocks.{obligation_format, cause_words, undecided_words};
-ghost use Rattle.report_lines.specs.Blocks.{to_cause, verdict_format};
-ghost use Rattle.report_lines.specs.Formats.{mapped};
+ghost use Rattle.report_lines.specs.{Blocks.{to_cause, verdict_format}, Formats.{mapped}};
 ghost use Rattle.report_lines.specs.Words.{left, line_text, Gives};
 
 use crate::fields::count;

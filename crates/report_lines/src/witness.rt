@@ -1,17 +1,15 @@
 // The lines of a witness: what they say, and reading them.
 
-ghost use Rattle.std.specs.Prelude.{◌≡◌, ◌∷◌, ◌++◌, [], length, codes, OnOk};
-ghost use Rattle.std.specs.Fmt.{decimal};
+ghost use Rattle.std.specs.{Prelude.{◌≡◌, ◌∷◌, ◌++◌, [], length, codes, OnOk}, Fmt.{decimal}};
 ghost use Rattle.std.specs.List.{flat_map};
-ghost use Rattle.report_lines.specs.Fields.{count_format, value_format};
-ghost use Rattle.std.proofs.Common.{inl, inr};
-ghost use Rattle.report_lines.specs.Formats.{only, mapped};
-ghost use Rattle.spec_core.specs.Specification.{op_of};
+ghost use Rattle.report_lines.specs.{Fields.{count_format, value_format}, Formats.{only, mapped}};
 ghost use Rattle.report_lines.specs.Witnesses.{to_shown, is_other, size_format, const_format};
 ghost use Rattle.report_lines.specs.Witnesses.{tuple_words, fact_format, reading_format};
 ghost use Rattle.report_lines.specs.Witnesses.{argument_format, arguments_words, call_format};
 ghost use Rattle.report_lines.specs.Witnesses.{at_format, shown_format};
 ghost use Rattle.report_lines.specs.Words.{left, spaced, line_text, Gives};
+ghost use Rattle.std.proofs.Common.{inl, inr};
+ghost use Rattle.spec_core.specs.Specification.{op_of};
 
 use crate::fields::{count, element, number, value};
 use crate::list::times;

@@ -1,8 +1,8 @@
 // The words of a line, without a copy of them.
 
 ghost use Rattle.std.specs.Prelude.{◌≡◌, ◌==◌, ◌≤◌, ℕ, List, length, map, take, Some, IfSome};
-ghost use Rattle.word_cut.specs.Whole.{size_read};
 ghost use Rattle.std.specs.List.{position_or_len};
+ghost use Rattle.word_cut.specs.Whole.{size_read};
 ghost use Rattle.report_lines.specs.Formats.{key_at, these_at, is_empty};
 ghost use Rattle.report_lines.specs.Words.{left, parts, next_of, Gives};
 ghost use Rattle.report_lines.specs.declared.words.ReadError.TheVariants.{Memory};

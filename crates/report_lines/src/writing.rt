@@ -1,10 +1,8 @@
 // Writing words, numbers and lists behind spaces, and the ends of a line.
 
-ghost use Rattle.std.specs.Prelude.{◌≡◌, ◌∷◌, ◌++◌, [], map, OnOk};
-ghost use Rattle.std.specs.Fmt.{decimal, signed_decimal};
+ghost use Rattle.std.specs.{Prelude.{◌≡◌, ◌∷◌, ◌++◌, [], map, OnOk}, Fmt.{decimal, signed_decimal}};
 ghost use Rattle.std.specs.List.{flat_map};
-ghost use Rattle.report_lines.specs.Formats.{counted};
-ghost use Rattle.report_lines.specs.Fields.{most_count};
+ghost use Rattle.report_lines.specs.{Formats.{counted}, Fields.{most_count}};
 ghost use Rattle.report_lines.specs.Words.{spaced, line_text};
 
 use crate::list::Entry;

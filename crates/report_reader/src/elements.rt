@@ -1,8 +1,7 @@
 // The elements at which the conclusion of an obligation may fail.
 
 ghost use Rattle.std.specs.Prelude.{◌≡◌, ◌≤◌, length};
-ghost use Rattle.spec_core.specs.Specification.{no_invariant};
-ghost use Rattle.spec_core.specs.Meaning.{invariant_line};
+ghost use Rattle.spec_core.specs.{Specification.{no_invariant}, Meaning.{invariant_line}};
 ghost use Rattle.obligation_list.specs.Breaking.{failing_vars, requires_line, elements_of};
 ghost use Rattle.proof_report.specs.Verdicts.{element_count};
 

@@ -1,14 +1,9 @@
 // Plain numbers of a line, read where they stand: of a few digits, before a space or at the end. Most numbers of a log are such.
 
 ghost use Rattle.std.specs.Prelude.{◌≡◌, ◌<◌, ◌≤◌, ℕ, List, [], Some, IfSome, true, length, take};
-ghost use Rattle.std.specs.Prelude.{slice_index_or};
-ghost use Rattle.std.specs.List.{list_all};
-ghost use Rattle.std.specs.Prelude.{codes};
-ghost use Rattle.word_cut.specs.Texts.{is_digit};
-ghost use Rattle.word_cut.specs.Whole.{number_of};
-ghost use Rattle.report_lines.specs.Fields.{count_format};
-ghost use Rattle.report_lines.specs.Formats.{key_at};
-ghost use Rattle.report_lines.specs.Words.{parts};
+ghost use Rattle.std.specs.{Prelude.{slice_index_or}, List.{list_all}, Prelude.{codes}};
+ghost use Rattle.word_cut.specs.{Texts.{is_digit}, Whole.{number_of}};
+ghost use Rattle.report_lines.specs.{Fields.{count_format}, Formats.{key_at}, Words.{parts}};
 ghost use Rattle.report_reader.specs.Resolving.{IsShort};
 
 // The number that the digits in front of bytes write, and how many there are: not all, where the number is a large one. The codes of the

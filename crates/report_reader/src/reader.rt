@@ -1,8 +1,7 @@
 // A reader of a report, line by line.
 
 ghost use Rattle.std.specs.Prelude.{◌≡◌, ◌<◌, IfOk, IfSome, IfNone, None, Ok};
-ghost use Rattle.proof_report.specs.declared.place.Place.TheVariants.{Log};
-ghost use Rattle.proof_report.specs.Feeding.{start};
+ghost use Rattle.proof_report.specs.{declared.place.Place.TheVariants.{Log}, Feeding.{start}};
 ghost use Rattle.report_reader.specs.Reader.{IsAnswered, IsFinished, first_reader, stated};
 ghost use Rattle.report_reader.specs.Resolving.{resolve_told};
 
@@ -34,8 +33,7 @@ pub struct ReportReader<'a> {
 }
 
 impl<'a> Model for ReportReader<'a> {
-    ghost use Rattle.std.specs.Prelude.{◌≡◌};
-    ghost use Rattle.std.specs.Coded.{codes};
+    ghost use Rattle.std.specs.{Prelude.{◌≡◌}, Coded.{codes}};
     ghost use Rattle.spec_core.specs.Code.{coded_form};
     ghost use Rattle.obligation_list.specs.Obligations.{obligations_of};
     ghost use Rattle.report_reader.specs.Reader.{ReaderForm, IsKept};

@@ -2,8 +2,7 @@
 
 ghost use Rattle.std.specs.Prelude.{◌≡◌, ◌==◌, ◌≤◌, length, ℕ};
 ghost use Rattle.obligation_list.specs.Obligations.{obligations_of};
-ghost use Rattle.report_lines.specs.Formats.{read as read_as};
-ghost use Rattle.report_lines.specs.Words.{left, parts, Gives};
+ghost use Rattle.report_lines.specs.{Formats.{read as read_as}, Words.{left, parts, Gives}};
 ghost use Rattle.proof_report.specs.Verdicts.{obligation_at, obligation_count, const_at, may_drop};
 ghost use Rattle.proof_report.specs.Verdicts.{relation_due, counter_due};
 ghost use Rattle.proof_report.specs.Events.{told as told_of};

@@ -2,10 +2,8 @@
 
 ghost use Rattle.std.specs.Prelude.{◌≡◌, Bool, Some, IfOk, IsTrue, false};
 ghost use Rattle.proof_lines.specs.declared.line.Line.TheVariants.{Resolve};
-ghost use Rattle.proof_report.specs.declared.event.Event.TheVariants.{Log};
-ghost use Rattle.report_lines.specs.Formats.{read as read_as};
-ghost use Rattle.report_lines.specs.Words.{parts};
-ghost use Rattle.proof_report.specs.Feeding.{log_line};
+ghost use Rattle.proof_report.specs.{declared.event.Event.TheVariants.{Log}, Feeding.{log_line}};
+ghost use Rattle.report_lines.specs.{Formats.{read as read_as}, Words.{parts}};
 ghost use Rattle.report_reader.specs.Resolving.{IsOneLess};
 
 use crate::plain::{behind_key, last_number, number_before};

@@ -1,7 +1,6 @@
 // Whether a line that has its form says what is true at its place.
 
-ghost use Rattle.std.specs.Prelude.{◌≡◌, ◌==◌, ◌≤◌, length};
-ghost use Rattle.std.specs.Ordering.{nat_cmp, is_lt};
+ghost use Rattle.std.specs.{Prelude.{◌≡◌, ◌==◌, ◌≤◌, length}, Ordering.{nat_cmp, is_lt}};
 ghost use Rattle.std.specs.Cmp.Lexicographic.{slice_cmp};
 ghost use Rattle.obligation_list.specs.Obligations.{obligations_of};
 ghost use Rattle.proof_report.specs.Verdicts.{obligation_at, obligation_count, call_count};

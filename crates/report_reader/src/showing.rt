@@ -1,9 +1,7 @@
 // The witness that the lines of a block show.
 
-ghost use Rattle.std.specs.Prelude.{◌≡◌, ◌<◌, true, length, IfOk, OnOk};
-ghost use Rattle.std.specs.List.{list_all};
-ghost use Rattle.spec_core.specs.State.{reads, with_has, with_count};
-ghost use Rattle.spec_core.specs.Fits.{is_state};
+ghost use Rattle.std.specs.{Prelude.{◌≡◌, ◌<◌, true, length, IfOk, OnOk}, List.{list_all}};
+ghost use Rattle.spec_core.specs.{State.{reads, with_has, with_count}, Fits.{is_state}};
 ghost use Rattle.report_reader.specs.Reader.{with_facts, with_readings, fact_fits, reading_fits};
 ghost use Rattle.report_reader.specs.Reader.{IsShowing, IsShownBy};
 

@@ -1,8 +1,7 @@
 // The upgraded log, from its end on: a clause that no line behind names is named last where it is met.
 
 ghost use Rattle.std.specs.Prelude.{◌≡◌, ℕ, ◌++◌, ◌||◌, ◌==◌, List, [], ◌∷◌, not, if◌then◌else◌};
-ghost use Rattle.std.specs.Prelude.{reverse, IfOk, OnOk, nat_eq};
-ghost use Rattle.std.specs.HashSet.{contains};
+ghost use Rattle.std.specs.{Prelude.{reverse, IfOk, OnOk, nat_eq}, HashSet.{contains}};
 ghost use Rattle.proof_lines.specs.declared.line.Line.{Line as Given};
 ghost use Rattle.report_upgrader.specs.UpgradedLogs.{is_named, last_named as last_named_of};
 ghost use Rattle.report_upgrader.specs.UpgradedLogs.{drop_line, unless_drop, upgraded};

@@ -1,8 +1,7 @@
 // What an upgraded report says: the same as the one that it was made of.
 
 ghost use Rattle.std.specs.Prelude.{◌≡◌, ℕ, ◌≤◌, true, List, length, Result, Ok};
-ghost use Rattle.spec_core.specs.Specification.{Specification};
-ghost use Rattle.spec_core.specs.Typed.{is_specification};
+ghost use Rattle.spec_core.specs.{Specification.{Specification}, Typed.{is_specification}};
 ghost use Rattle.report_lines.specs.declared.head.Tally.{Tally};
 ghost use Rattle.report_verifier.specs.Verified.{most_report_bytes, IsAccepted, IsVerified};
 ghost use Rattle.report_verifier.specs.Verified.{IsOnAll};

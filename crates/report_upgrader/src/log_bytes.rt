@@ -5,17 +5,14 @@
 // noted as they were verified, and how long each line is; the others are read here. The lines of a log
 // are gone through twice: `planning` finds what is written for each, and `log_writing` writes it.
 ghost use Rattle.std.specs.Prelude.{◌≡◌, ℕ, ◌+◌, ◌<◌, ◌≤◌, ◌++◌, ◌∷◌, [], List, true, codes};
-ghost use Rattle.std.specs.Prelude.{drop, length, take, IfOk, OnOk, Some};
-ghost use Rattle.std.specs.Str.{bytes_eq};
+ghost use Rattle.std.specs.{Prelude.{drop, length, take, IfOk, OnOk, Some}, Str.{bytes_eq}};
 ghost use Rattle.proof_lines.specs.declared.line.Line.{Line as Given};
 ghost use Rattle.proof_lines.specs.declared.line.Line.TheVariants.{Drop as DropLine};
 ghost use Rattle.report_upgrader.specs.UpgradedLogs.{rising};
-ghost use Rattle.report_lines.specs.Logs.{line_format};
-ghost use Rattle.report_lines.specs.Words.{left};
 ghost use Rattle.report_upgrader.specs.Plans.{IsKind, dropped_by, dropped_from, written_for};
-ghost use Rattle.report_upgrader.specs.Plans.{IsWritten};
+ghost use Rattle.report_upgrader.specs.{Plans.{IsWritten}, Passing.{IsText}};
+ghost use Rattle.report_lines.specs.{Logs.{line_format}, Words.{left}};
 ghost use Rattle.report_verifier.specs.Notes.{IsLong, IsPair};
-ghost use Rattle.report_upgrader.specs.Passing.{IsText};
 
 use crate::gathering::MANY;
 use crate::planning::Rewritten;

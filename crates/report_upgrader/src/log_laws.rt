@@ -1,10 +1,8 @@
 // What the upgraded log keeps of a log.
 
 ghost use Rattle.std.specs.Prelude.{◌≡◌, List, Result, IsOk};
-ghost use Rattle.proof_lines.specs.declared.line.Line.{Line};
-ghost use Rattle.proof_lines.specs.Problems.{PlainProblem};
-ghost use Rattle.proof_kernel.specs.Rules.{run};
-ghost use Rattle.proof_kernel.specs.Answers.{IsJudged};
+ghost use Rattle.proof_lines.specs.{declared.line.Line.{Line}, Problems.{PlainProblem}};
+ghost use Rattle.proof_kernel.specs.{Rules.{run}, Answers.{IsJudged}};
 ghost use Rattle.proof_kernel.specs.declared.answer.Checked.{Checked};
 ghost use Rattle.proof_kernel.specs.declared.answer.KernelRefused.{KernelRefused};
 ghost use Rattle.report_upgrader.specs.UpgradedLogs.{upgraded};

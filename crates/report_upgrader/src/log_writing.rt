@@ -4,19 +4,16 @@
 // 64 KiB. What is gathered is written as soon as it is so much, so that no
 // more than that is held of a log that has millions of lines.
 ghost use Rattle.std.specs.Prelude.{◌≡◌, ℕ, ◌+◌, ◌<◌, ◌≤◌, ◌++◌, [], List, Option, drop, length};
-ghost use Rattle.std.specs.Prelude.{take};
-ghost use Rattle.std.specs.Prelude.{IfErr, IfOk, OnErr, OnOk};
-ghost use Rattle.byte_ports.specs.Faults.{IsFault};
-ghost use Rattle.byte_ports.specs.Written.{IsFrontWritten};
+ghost use Rattle.std.specs.{Prelude.{take}, Prelude.{IfErr, IfOk, OnErr, OnOk}};
+ghost use Rattle.byte_ports.specs.{Faults.{IsFault}, Written.{IsFrontWritten}};
 ghost use Rattle.byte_ports.specs.declared.text.WriteOut.TheVariants.{Fault};
 ghost use Rattle.proof_lines.specs.declared.line.Line.{Line as Given};
 ghost use Rattle.proof_report.specs.Texts.{log_text};
-ghost use Rattle.report_upgrader.specs.UpgradedLogs.{upgraded};
-ghost use Rattle.report_bytes.specs.Bytes.{pieces};
-ghost use Rattle.report_verifier.specs.Notes.{IsLong, IsPair, AreNoted};
-ghost use Rattle.report_upgrader.specs.Plans.{written_for};
+ghost use Rattle.report_upgrader.specs.{UpgradedLogs.{upgraded}, Plans.{written_for}};
 ghost use Rattle.report_upgrader.specs.Passing.{proved_text, say_log, IsText, IsPlanned};
 ghost use Rattle.report_upgrader.specs.Passing.{IsGathered};
+ghost use Rattle.report_bytes.specs.Bytes.{pieces};
+ghost use Rattle.report_verifier.specs.Notes.{IsLong, IsPair, AreNoted};
 
 use crate::gathering::write_much;
 use crate::log_bytes::{behind_line, is_copied, put_line};

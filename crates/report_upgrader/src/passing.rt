@@ -1,12 +1,10 @@
 // A line of a report that stands, passed on: as it is, or with the log that it begins, upgraded.
 ghost use Rattle.std.specs.Prelude.{◌≡◌, ◌≤◌, ◌++◌, ◌∷◌, [], List, ℕ, Option, length, IfOk, IfErr};
 ghost use Rattle.std.specs.Prelude.{OnOk, OnErr};
-ghost use Rattle.byte_ports.specs.Faults.{IsFault};
-ghost use Rattle.byte_ports.specs.Written.{IsFrontWritten};
+ghost use Rattle.byte_ports.specs.{Faults.{IsFault}, Written.{IsFrontWritten}};
 ghost use Rattle.byte_ports.specs.declared.text.WriteOut.TheVariants.{Fault};
 ghost use Rattle.spec_core.specs.Specification.{Specification};
-ghost use Rattle.proof_report.specs.declared.event.Event.{Event};
-ghost use Rattle.proof_report.specs.Events.{words};
+ghost use Rattle.proof_report.specs.{declared.event.Event.{Event}, Events.{words}};
 ghost use Rattle.report_bytes.specs.Bytes.{pieces};
 ghost use Rattle.report_verifier.specs.Notes.{AreNoted};
 ghost use Rattle.report_lines.specs.Words.{parts};

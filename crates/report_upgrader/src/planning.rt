@@ -4,15 +4,13 @@
 // line which clauses the later ones name. A table of these has a byte for each clause, and at most an eighth more; the plan has a byte for
 // each line. How many lines the upgraded log has comes with it, which stands before the log.
 ghost use Rattle.std.specs.Prelude.{◌≡◌, ℕ, ◌+◌, ◌==◌, ◌<◌, ◌≤◌, ◌||◌, ◌∷◌, [], List, false};
-ghost use Rattle.std.specs.Prelude.{length};
-ghost use Rattle.std.specs.Prelude.{slice_index_or, IfOk, OnOk};
+ghost use Rattle.std.specs.{Prelude.{length}, Prelude.{slice_index_or, IfOk, OnOk}};
 ghost use Rattle.proof_lines.specs.declared.line.Line.{Line as Given};
 ghost use Rattle.report_upgrader.specs.UpgradedLogs.{upgraded};
+ghost use Rattle.report_upgrader.specs.Plans.{IsKind, IsSeen, place_of, with_drops, written_by};
+ghost use Rattle.report_upgrader.specs.{Plans.{written_for, AreWritten}, Passing.{say_log}};
 ghost use Rattle.report_bytes.specs.Bytes.{pieces};
 ghost use Rattle.report_verifier.specs.Notes.{AreNotedTo};
-ghost use Rattle.report_upgrader.specs.Plans.{IsKind, IsSeen, place_of, with_drops, written_by};
-ghost use Rattle.report_upgrader.specs.Plans.{written_for, AreWritten};
-ghost use Rattle.report_upgrader.specs.Passing.{say_log};
 
 use crate::log_bytes::{LogLine, kind_noted, line_at};
 use report_verifier::LineNote;

@@ -1,7 +1,6 @@
 // What an upgraded report keeps of a report.
 
-ghost use Rattle.std.specs.Prelude.{◌≡◌, true};
-ghost use Rattle.std.specs.List.{fold, list_all};
+ghost use Rattle.std.specs.{Prelude.{◌≡◌, true}, List.{fold, list_all}};
 ghost use Rattle.spec_core.specs.Specification.{Specification};
 ghost use Rattle.proof_report.specs.Verdicts.{ReportForm, is_report};
 ghost use Rattle.proof_report.specs.Events.{no_verdicts, with_verdict};

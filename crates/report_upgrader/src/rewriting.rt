@@ -2,14 +2,12 @@
 ghost use Rattle.std.specs.Prelude.{◌≡◌, true, ℕ, ◌≤◌, ◌∷◌, [], List, take, length};
 ghost use Rattle.std.specs.Prelude.{IfOk, IfErr, OnOk, OnErr, IfSome, IfNone, ◌<◌};
 ghost use Rattle.std.specs.Io.KnownBytes.{Appends};
-ghost use Rattle.byte_ports.specs.Faults.{IsFault};
-ghost use Rattle.byte_ports.specs.Written.{IsFrontWritten};
+ghost use Rattle.byte_ports.specs.{Faults.{IsFault}, Written.{IsFrontWritten}};
 ghost use Rattle.byte_ports.specs.declared.text.WriteOut.TheVariants.{Fault};
 ghost use Rattle.proof_report.specs.Verdicts.{ReportForm, is_report};
 ghost use Rattle.report_verifier.specs.Notes.{AreNoted};
 ghost use Rattle.report_bytes.specs.Bytes.{pieces, report_bytes};
-ghost use Rattle.report_upgrader.specs.Reports.{upgraded_report};
-ghost use Rattle.report_upgrader.specs.Passing.{Task, IsUnderway};
+ghost use Rattle.report_upgrader.specs.{Reports.{upgraded_report}, Passing.{Task, IsUnderway}};
 
 use crate::gathering::write_out;
 use crate::log_bytes::cut_line;

@@ -8,8 +8,7 @@ ghost use Rattle.std.specs.Prelude.{◌≡◌, suc, ◌+◌, false, length, ◌+
 ghost use Rattle.std.specs.Prelude.{OnOk, IsTrue};
 ghost use Rattle.lazy_ground.specs.Cache.{AreKept};
 ghost use Rattle.report_verifier.specs.Verifier.{no_judgement, obligation_due, log_all, logged};
-ghost use Rattle.report_verifier.specs.Listed.{IsListed};
-ghost use Rattle.report_verifier.specs.Posing.{IsLazyOf};
+ghost use Rattle.report_verifier.specs.{Listed.{IsListed}, Posing.{IsLazyOf}};
 ghost use Rattle.report_verifier.specs.Deferring.{after_deferred, judgement_of, HasDeferred};
 ghost use Rattle.report_verifier.specs.Deferring.{IsRefutedBy};
 

@@ -1,9 +1,7 @@
 // A report that is held, verified where it stands, with a note of each of its lines before the first fault of its text.
 ghost use Rattle.std.specs.Prelude.{◌≡◌, ℕ, ◌≤◌, [], ◌∷◌, ◌++◌, true, false, length, None, IfOk};
-ghost use Rattle.std.specs.Prelude.{OnOk};
-ghost use Rattle.std.specs.Prelude.{IsErrOf};
-ghost use Rattle.spec_core.specs.Specification.{Specification};
-ghost use Rattle.spec_core.specs.Typed.{is_specification};
+ghost use Rattle.std.specs.{Prelude.{OnOk}, Prelude.{IsErrOf}};
+ghost use Rattle.spec_core.specs.{Specification.{Specification}, Typed.{is_specification}};
 ghost use Rattle.report_bytes.specs.Bytes.{pieces};
 ghost use Rattle.report_verifier.specs.Notes.{NoteForm, IsPair, AreNotedTo, AreNoted};
 ghost use Rattle.report_verifier.specs.Verifier.{first_verifier, next_verifier, AreFed};

@@ -1,9 +1,7 @@
 // What is kept of the verdicts of a report, line by line.
 ghost use Rattle.std.specs.Prelude.{◌≡◌, suc, Some, IfOk, OnOk};
-ghost use Rattle.report_verifier.specs.Rules.{or_else};
-ghost use Rattle.report_verifier.specs.Verifier.{no_judgement, has_log, logged};
-ghost use Rattle.report_verifier.specs.Taking.{ended_as, with_ended_as};
-ghost use Rattle.report_verifier.specs.Listed.{IsListed};
+ghost use Rattle.report_verifier.specs.{Rules.{or_else}, Verifier.{no_judgement, has_log, logged}};
+ghost use Rattle.report_verifier.specs.{Taking.{ended_as, with_ended_as}, Listed.{IsListed}};
 
 use crate::ending::end_fault;
 use crate::logs::kind_of;

@@ -2,8 +2,7 @@
 
 ghost use Rattle.std.specs.Prelude.{◌≡◌, ◌≤◌, ◌↔◌, ℕ, true, None, Some, Ok, List, [], length};
 ghost use Rattle.std.specs.Prelude.{slice_get, Result};
-ghost use Rattle.spec_core.specs.Specification.{Specification};
-ghost use Rattle.spec_core.specs.State.{Listing, reads};
+ghost use Rattle.spec_core.specs.{Specification.{Specification}, State.{Listing, reads}};
 ghost use Rattle.spec_core.specs.Typed.{is_specification};
 ghost use Rattle.executions.specs.Convergence.{Converges};
 ghost use Rattle.obligation_list.specs.declared.obligation.Obligation.{Obligation};

@@ -1,8 +1,7 @@
 // A specification with the list of its obligations, on each of which a report has a verdict.
 ghost use Rattle.std.specs.Prelude.{◌≡◌, IfOk};
 ghost use Rattle.obligation_list.specs.Obligations.{IsObligation};
-ghost use Rattle.proof_report.specs.Events.{told};
-ghost use Rattle.proof_report.specs.Verdicts.{obligation_at};
+ghost use Rattle.proof_report.specs.{Events.{told}, Verdicts.{obligation_at}};
 ghost use Rattle.report_verifier.specs.Listed.{IsListed};
 
 use obligation_list::Obligation;

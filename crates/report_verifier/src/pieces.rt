@@ -1,11 +1,9 @@
 // The lines of a report that comes in pieces. A line that no line feed has ended yet is kept until a later piece ends it.
 ghost use Rattle.std.specs.Prelude.{◌≡◌, ℕ, ◌≤◌, ◌<◌, ◌++◌, [], List, length, IfSome, OnOk};
-ghost use Rattle.std.specs.Prelude.{IsErrOf};
-ghost use Rattle.std.specs.Io.KnownBytes.{IsAtEnd, Consumes};
+ghost use Rattle.std.specs.{Prelude.{IsErrOf}, Io.KnownBytes.{IsAtEnd, Consumes}};
 ghost use Rattle.byte_ports.specs.Faults.{IsFault};
 ghost use Rattle.report_verifier.specs.Verifier.{next_verifier, AreFed};
-ghost use Rattle.report_verifier.specs.Pieces.{IsUnended, AreTaken};
-ghost use Rattle.report_verifier.specs.Verified.{most_report_bytes};
+ghost use Rattle.report_verifier.specs.{Pieces.{IsUnended, AreTaken}, Verified.{most_report_bytes}};
 
 use crate::verifier::Verifier;
 use byte_ports::{ReadRefused, Source};

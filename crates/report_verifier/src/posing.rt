@@ -5,13 +5,9 @@ ghost use Rattle.obligation_list.specs.declared.obligation.Obligation.{Obligatio
 ghost use Rattle.obligation_list.specs.Obligations.{IsObligation};
 ghost use Rattle.ground_numbers.specs.Problem.{problem_of};
 ghost use Rattle.proof_kernel.specs.Rules.{start};
-ghost use Rattle.instances.specs.Ground.{IsGrounded};
-ghost use Rattle.instances.specs.Entry.{HasEntry, HasEntryClauses};
-ghost use Rattle.lazy_ground.specs.Lazy.{IsLazyGround};
-ghost use Rattle.lazy_ground.specs.Kept.{HasLazyKept};
-ghost use Rattle.lazy_ground.specs.Cache.{AreKept};
-ghost use Rattle.report_verifier.specs.Rules.{has_many};
-ghost use Rattle.report_verifier.specs.Posing.{IsPosed};
+ghost use Rattle.instances.specs.{Ground.{IsGrounded}, Entry.{HasEntry, HasEntryClauses}};
+ghost use Rattle.lazy_ground.specs.{Lazy.{IsLazyGround}, Kept.{HasLazyKept}, Cache.{AreKept}};
+ghost use Rattle.report_verifier.specs.{Rules.{has_many}, Posing.{IsPosed}};
 
 use ground_numbers::law_obligation_fits;
 use instances::{GroundRefused, Grounded};

@@ -2,11 +2,9 @@
 ghost use Rattle.std.specs.Prelude.{◌≡◌, ◌≤◌, IfOk, OnOk, OnErr, IsErr, true, false};
 ghost use Rattle.report_reader.specs.Resolving.{resolve_told};
 ghost use Rattle.report_bytes.specs.Collecting.{budget_in};
-ghost use Rattle.report_verifier.specs.Notes.{IsPair};
-ghost use Rattle.report_verifier.specs.Taking.{IsTold};
+ghost use Rattle.report_verifier.specs.{Notes.{IsPair}, Taking.{IsTold}};
 ghost use Rattle.report_verifier.specs.Verifier.{first_verifier, next_verifier, IsTaken};
-ghost use Rattle.report_verifier.specs.Verifier.{IsFinished};
-ghost use Rattle.report_verifier.specs.Verifier.{IsCutOff};
+ghost use Rattle.report_verifier.specs.{Verifier.{IsFinished}, Verifier.{IsCutOff}};
 ghost use Rattle.report_verifier.specs.Verifier.{IsJudgement, IsMissing, clauses_in, most_kept};
 
 use crate::deferring::{Judging, log_or_defer, no_judging, settle};
@@ -39,9 +37,7 @@ pub struct Verifier<'a> {
 }
 
 impl<'a> Model for Verifier<'a> {
-    ghost use Rattle.std.specs.Prelude.{◌≡◌};
-    ghost use Rattle.std.specs.Coded.{codes};
-    ghost use Rattle.std.specs.List.{Contains};
+    ghost use Rattle.std.specs.{Prelude.{◌≡◌}, Coded.{codes}, List.{Contains}};
     ghost use Rattle.spec_core.specs.Code.{coded_form};
     ghost use Rattle.obligation_list.specs.declared.obligation.Obligation.{Obligation};
     ghost use Rattle.obligation_list.specs.Obligations.{obligations_of, IsObligation};

@@ -3,8 +3,7 @@
 ghost use Rattle.std.specs.Prelude.{◌≡◌, ℕ, ◌≤◌, List, [], true, IsErrOf};
 ghost use Rattle.std.specs.Io.KnownBytes.{IsAtEnd, Consumes};
 ghost use Rattle.byte_ports.specs.Faults.{IsFault};
-ghost use Rattle.spec_core.specs.Specification.{Specification};
-ghost use Rattle.spec_core.specs.Typed.{is_specification};
+ghost use Rattle.spec_core.specs.{Specification.{Specification}, Typed.{is_specification}};
 ghost use Rattle.report_verifier.specs.Verifier.{first_verifier, IsEnded};
 ghost use Rattle.report_verifier.specs.Verified.{IsVerifiedFrom, IsOnAll};
 

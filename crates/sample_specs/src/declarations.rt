@@ -1,8 +1,7 @@
 // The sort, the relations, the token, the conflict rule and the invariants of a generated specification.
 
 ghost use Rattle.std.specs.Prelude.{◌≡◌, ◌≤◌, ◌+◌, [], ◌∷◌, IfOk, map, codes};
-ghost use Rattle.spec_core.specs.Form.{form_of, implies_form};
-ghost use Rattle.spec_core.specs.World.{below};
+ghost use Rattle.spec_core.specs.{Form.{form_of, implies_form}, World.{below}};
 ghost use Rattle.sample_specs.specs.Sample.{relation_at as relation_of, the_token};
 ghost use Rattle.sample_specs.specs.Sample.{pattern as pattern_of, the_rule, needs as needs_of};
 ghost use Rattle.sample_specs.specs.Sample.{from_one};

@@ -1,9 +1,7 @@
 // The operations of a generated specification: each puts its item into a relation, or takes it out.
 
-ghost use Rattle.std.specs.Prelude.{◌≡◌, ◌≤◌, [], ◌∷◌, IfOk};
-ghost use Rattle.std.specs.List.{flat_map};
-ghost use Rattle.spec_core.specs.Form.{form_of, not_form};
-ghost use Rattle.spec_core.specs.World.{below};
+ghost use Rattle.std.specs.{Prelude.{◌≡◌, ◌≤◌, [], ◌∷◌, IfOk}, List.{flat_map}};
+ghost use Rattle.spec_core.specs.{Form.{form_of, not_form}, World.{below}};
 ghost use Rattle.sample_specs.specs.Sample.{an_item as an_item_of, has_item as has_item_of};
 ghost use Rattle.sample_specs.specs.Sample.{requires_line as requires_line_of, update_of};
 ghost use Rattle.sample_specs.specs.Sample.{takes_item as takes_item_of, on_item as on_item_of};

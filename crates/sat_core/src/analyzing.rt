@@ -1,8 +1,7 @@
 // Analysis of conflicts: a chain of resolvents from a false clause back along the trail, and backtracking: whole decision levels are cut off
 // the trail after it.
 ghost use Rattle.std.specs.Prelude.{◌≡◌, ◌<◌, ◌≤◌, ◌^◌, ◌∷◌, ◌++◌, [], true, false, length, slice_index_or, IfOk};
-ghost use Rattle.proof_lines.specs.declared.line.Line.TheVariants.{Farkas};
-ghost use Rattle.proof_lines.specs.Clauses.{negations};
+ghost use Rattle.proof_lines.specs.{declared.line.Line.TheVariants.{Farkas}, Clauses.{negations}};
 ghost use Rattle.proof_lines.specs.Problems.{atoms_below};
 ghost use Rattle.sat_core.specs.Trails.{is_done};
 ghost use Rattle.sat_core.specs.SearchLogs.{resolve_line, resolved_on, with_clause};

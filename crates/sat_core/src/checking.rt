@@ -1,15 +1,12 @@
 // What follows for a search from what its solver says of the rows of a complete trail.
 ghost use Rattle.std.specs.Prelude.{◌≡◌, ◌<◌, ◌≤◌, ◌^◌, ◌++◌, ◌∷◌, [], nat_lt, ℕ, List, true, false, map, length, slice_index_or, OnOk, IfOk};
 ghost use Rattle.std.specs.List.{list_all};
-ghost use Rattle.lin_rows.specs.Numbers.{in_range};
-ghost use Rattle.lin_rows.specs.Rows.{Row as PlainRow};
+ghost use Rattle.lin_rows.specs.{Numbers.{in_range}, Rows.{Row as PlainRow}};
 ghost use Rattle.proof_lines.specs.declared.clause.Lit.{Lit as PlainLit};
-ghost use Rattle.proof_lines.specs.declared.line.Line.TheVariants.{Split};
+ghost use Rattle.proof_lines.specs.{declared.line.Line.TheVariants.{Split}, Clauses.{lit_of}};
 ghost use Rattle.line_rows.specs.Splits.{at_most};
-ghost use Rattle.proof_lines.specs.Clauses.{lit_of};
 ghost use Rattle.theory_api.specs.Laws.{IsAnswer as IsTheoryAnswer};
-ghost use Rattle.sat_core.specs.Trails.{in_trail, is_assigned, Settled};
-ghost use Rattle.sat_core.specs.SearchLogs.{with_row};
+ghost use Rattle.sat_core.specs.{Trails.{in_trail, is_assigned, Settled}, SearchLogs.{with_row}};
 ghost use Rattle.sat_core.specs.Answers.{AreRowsOf};
 ghost use Rattle.sat_core.specs.Searching.{InSearch, IsRefutation, IsLearned, IsRowAssignment, lit_at};
 ghost use Rattle.sat_core.specs.Outcomes.{IsOutcome, outcome_of, IfContinue, IsStay, IsSplitOff};

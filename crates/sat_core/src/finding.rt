@@ -1,8 +1,7 @@
 // What the clauses say under a trail.
 ghost use Rattle.std.specs.Prelude.{◌≡◌, ◌<◌, ◌^◌, ℕ, true, false, length, MatchOption};
 ghost use Rattle.std.specs.List.{list_any};
-ghost use Rattle.sat_core.specs.Trails.{is_assigned, is_unit};
-ghost use Rattle.sat_core.specs.Searching.{IsFound};
+ghost use Rattle.sat_core.specs.{Trails.{is_assigned, is_unit}, Searching.{IsFound}};
 
 use crate::growing::{clause_count, lits_of};
 use crate::trail::Trail;

@@ -1,11 +1,9 @@
 // The problem so far: the given one, with the clauses and atoms that the lines of the log gave.
 ghost use Rattle.std.specs.Prelude.{◌≡◌, ◌<◌, ◌^◌, ◌∷◌, [], true, length, slice_index_or, OnOk, IfOk, MatchResult};
 ghost use Rattle.lin_rows.specs.Rows.{places_below};
-ghost use Rattle.proof_lines.specs.Clauses.{distinct};
-ghost use Rattle.proof_lines.specs.Problems.{atoms_below};
+ghost use Rattle.proof_lines.specs.{Clauses.{distinct}, Problems.{atoms_below}};
 ghost use Rattle.proof_lines.specs.declared.problem.AtomKind.TheVariants.{Plain};
-ghost use Rattle.sat_core.specs.SearchLogs.{with_clause, with_row};
-ghost use Rattle.sat_core.specs.Searching.{is_true_at_zero};
+ghost use Rattle.sat_core.specs.{SearchLogs.{with_clause, with_row}, Searching.{is_true_at_zero}};
 
 use lin_rows::Row;
 use line_rows::splitting::is_negative;

@@ -1,8 +1,7 @@
 // Where the literals of a trail stand: by atom, the place of the oldest entry with the atom's literal of one sign.
 ghost use Rattle.std.specs.Prelude.{◌≡◌, ◌<◌, ◌∷◌, ◌++◌, [], ℕ, true, false, None, OnOk, OnErr};
 ghost use Rattle.std.specs.Prelude.{length, reverse, slice_index_or};
-ghost use Rattle.sat_core.specs.Trails.{in_trail};
-ghost use Rattle.sat_core.specs.Places.{lies_before, lies_from, ArePlaces};
+ghost use Rattle.sat_core.specs.{Trails.{in_trail}, Places.{lies_before, lies_from, ArePlaces}};
 
 use crate::trail::Entry;
 use std::alloc::AllocError;

@@ -1,11 +1,8 @@
 // The plain search: it looks through all clauses for a false or a unit one.
-ghost use Rattle.std.specs.Prelude.{◌≡◌, ◌<◌, ◌≤◌, ℕ, List, true, false, length};
-ghost use Rattle.std.specs.List.{list_any};
+ghost use Rattle.std.specs.{Prelude.{◌≡◌, ◌<◌, ◌≤◌, ℕ, List, true, false, length}, List.{list_any}};
 ghost use Rattle.lin_rows.specs.Rows.{Row as PlainRow};
-ghost use Rattle.proof_lines.specs.declared.clause.Lit.{Lit as PlainLit};
-ghost use Rattle.proof_lines.specs.Clauses.{is_empty};
-ghost use Rattle.sat_core.specs.Answers.{AreRowsOf, IsAnswer, ShowsNone};
-ghost use Rattle.sat_core.specs.Searching.{InSearch};
+ghost use Rattle.proof_lines.specs.{declared.clause.Lit.{Lit as PlainLit}, Clauses.{is_empty}};
+ghost use Rattle.sat_core.specs.{Answers.{AreRowsOf, IsAnswer, ShowsNone}, Searching.{InSearch}};
 ghost use Rattle.sat_core.specs.Outcomes.{IsOutcome, IsPushed};
 
 use crate::answer::Answer;

@@ -1,6 +1,5 @@
 // The state of a search: what its log has given so far, the trail, and the log.
-ghost use Rattle.std.specs.Prelude.{◌≡◌, [], ℕ, Bool, false, IfOk};
-ghost use Rattle.std.specs.List.{list_any};
+ghost use Rattle.std.specs.{Prelude.{◌≡◌, [], ℕ, Bool, false, IfOk}, List.{list_any}};
 ghost use Rattle.proof_lines.specs.Clauses.{is_empty};
 ghost use Rattle.sat_core.specs.Searching.{InSearch};
 

@@ -4,8 +4,7 @@ ghost use Rattle.std.specs.Prelude.{MatchOption, false, [], ◌∷◌, ◌++◌,
 ghost use Rattle.proof_lines.specs.Clauses.{has, flip};
 ghost use Rattle.sat_core.specs.Trails.{in_trail, negated, is_assigned, is_false, is_unit};
 ghost use Rattle.sat_core.specs.Trails.{open_in, before_last, has_decision, is_done};
-ghost use Rattle.sat_core.specs.Trails.{others_false};
-ghost use Rattle.sat_core.specs.Places.{place_of, ArePlaces};
+ghost use Rattle.sat_core.specs.{Trails.{others_false}, Places.{place_of, ArePlaces}};
 
 use crate::decisions;
 use crate::decisions::{forget, note, top};
@@ -33,10 +32,8 @@ pub struct Trail {
 }
 
 impl Model for Trail {
-    ghost use Rattle.std.specs.Prelude.{List, reverse};
-    ghost use Rattle.std.specs.Coded.{coded_list};
-    ghost use Rattle.sat_core.specs.declared.trail.Entry.{Entry};
-    ghost use Rattle.sat_core.specs.Codes.{entry_code};
+    ghost use Rattle.std.specs.{Prelude.{List, reverse}, Coded.{coded_list}};
+    ghost use Rattle.sat_core.specs.{declared.trail.Entry.{Entry}, Codes.{entry_code}};
     ghost use Rattle.sat_core.specs.Places.{IsIndexed};
 
     ghost Value = { List Entry };

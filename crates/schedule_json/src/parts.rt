@@ -1,13 +1,10 @@
 // What stands in a JSON value: numbers, and the members of objects.
 
 ghost use Rattle.std.specs.Prelude.{◌≡◌, true, length, option_map, option_and_then};
-ghost use Rattle.std.specs.List.{list_all};
-ghost use Rattle.std.specs.Str.{is_utf8};
-ghost use Rattle.serde_json.specs.Find.{get};
-ghost use Rattle.serde_json.specs.View.{view};
+ghost use Rattle.std.specs.{List.{list_all}, Str.{is_utf8}};
+ghost use Rattle.serde_json.specs.{Find.{get}, View.{view}};
 ghost use Rattle.schedule_json.specs.Parts.{whole, natural as natural_of, is_count, member_count};
-ghost use Rattle.schedule_json.specs.Parts.{has_each, has_exactly};
-ghost use Rattle.schedule_json.specs.Worlds.{const_names};
+ghost use Rattle.schedule_json.specs.{Parts.{has_each, has_exactly}, Worlds.{const_names}};
 
 use serde_json::Value;
 use spec_core::{Const, Name};

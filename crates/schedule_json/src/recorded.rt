@@ -2,8 +2,7 @@
 
 ghost use Rattle.std.specs.Prelude.{◌≡◌, ◌⊎◌, ◌≤◌, length, option_map, option_and_then, Ok, Err};
 ghost use Rattle.std.specs.Prelude.{IfOk, IfErr, codes};
-ghost use Rattle.serde_json.specs.View.{view, items_view};
-ghost use Rattle.serde_json.specs.Find.{as_array};
+ghost use Rattle.serde_json.specs.{View.{view, items_view}, Find.{as_array}};
 ghost use Rattle.schedule_json.specs.Parts.{has_exactly};
 ghost use Rattle.schedule_json.specs.Recorded.{number as number_of, name as name_of, wholes};
 ghost use Rattle.schedule_json.specs.Recorded.{arguments, call_keys, taking_keys, call_from};

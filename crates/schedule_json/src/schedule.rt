@@ -2,12 +2,10 @@
 
 ghost use Rattle.std.specs.Prelude.{◌≡◌, ◌⊎◌, length, option_map, option_and_then, Ok, Err, IfOk};
 ghost use Rattle.std.specs.Prelude.{IfErr, codes};
-ghost use Rattle.serde_json.specs.View.{view};
-ghost use Rattle.serde_json.specs.Find.{get};
+ghost use Rattle.serde_json.specs.{View.{view}, Find.{get}};
 ghost use Rattle.schedule_json.specs.Parts.{whole, has_exactly};
 ghost use Rattle.schedule_json.specs.Schedules.{count_of, schedule_keys, schedule_of};
-ghost use Rattle.schedule_json.specs.Schedules.{schedule_from};
-ghost use Rattle.schedule_json.specs.Fitting.{IsScheduleOf};
+ghost use Rattle.schedule_json.specs.{Schedules.{schedule_from}, Fitting.{IsScheduleOf}};
 
 use crate::parts::has_members;
 use crate::recorded::read_steps;

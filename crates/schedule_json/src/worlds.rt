@@ -1,10 +1,8 @@
 // The world of a schedule.
 
 ghost use Rattle.std.specs.Prelude.{◌≡◌, ◌⊎◌, true, option_map, Ok, Err, IfOk, IfErr, codes};
-ghost use Rattle.std.specs.List.{list_all};
-ghost use Rattle.std.specs.Str.{is_utf8};
-ghost use Rattle.serde_json.specs.View.{view};
-ghost use Rattle.serde_json.specs.Find.{get};
+ghost use Rattle.std.specs.{List.{list_all}, Str.{is_utf8}};
+ghost use Rattle.serde_json.specs.{View.{view}, Find.{get}};
 ghost use Rattle.schedule_json.specs.Worlds.{number_below as number_below_of, sizes_at, sizes_of};
 ghost use Rattle.schedule_json.specs.Worlds.{elements_at, elements_of, const_names, world_of};
 

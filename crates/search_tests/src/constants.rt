@@ -1,6 +1,5 @@
 // A solver of rows without names: each is a contradiction or true everywhere.
-ghost use Rattle.std.specs.Prelude.{◌≡◌, ◌<◌, true, false, length};
-ghost use Rattle.std.specs.List.{list_all};
+ghost use Rattle.std.specs.{Prelude.{◌≡◌, ◌<◌, true, false, length}, List.{list_all}};
 ghost use Rattle.lin_rows.specs.Rows.{has_no_terms};
 
 use items::Items;

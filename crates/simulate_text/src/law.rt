@@ -1,14 +1,12 @@
 // What every simulation keeps, and what one of a safe specification keeps.
 
 ghost use Rattle.std.specs.Prelude.{◌≡◌, ◌≢◌, ℕ, true, List};
-ghost use Rattle.spec_core.specs.declared.world.World.{World};
-ghost use Rattle.spec_core.specs.Specification.{Specification};
+ghost use Rattle.spec_core.specs.{declared.world.World.{World}, Specification.{Specification}};
 ghost use Rattle.spec_core.specs.Fits.{is_world};
 ghost use Rattle.obligation_list.specs.Breaking.{Safe};
 ghost use Rattle.replica_replay.specs.declared.step.Step.{Step};
 ghost use Rattle.token_protocol.specs.Executed.{IsExecuted};
-ghost use Rattle.simulate_text.specs.Course.{course};
-ghost use Rattle.simulate_text.specs.Recorded.{simulated_status};
+ghost use Rattle.simulate_text.specs.{Course.{course}, Recorded.{simulated_status}};
 ghost use Rattle.simulate_text.specs.Safely.{GoesSafely};
 
 use spec_core::Spec;

@@ -1,8 +1,7 @@
 // From the bytes of a schedule to the text of its simulation.
 
 ghost use Rattle.std.specs.Prelude.{◌≡◌, ◌≤◌, length, IfOk};
-ghost use Rattle.schedule_json.specs.Fitting.{IsScheduleOf};
-ghost use Rattle.schedule_json.specs.Texts.{most_schedule_bytes};
+ghost use Rattle.schedule_json.specs.{Fitting.{IsScheduleOf}, Texts.{most_schedule_bytes}};
 ghost use Rattle.simulate_text.specs.Text.{simulate_text, simulate_status};
 ghost use Rattle.simulate_text.specs.Recorded.{simulated_status, simulated_text};
 

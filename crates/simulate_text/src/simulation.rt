@@ -3,16 +3,14 @@
 ghost use Rattle.std.specs.Prelude.{◌≡◌, ◌≢◌, ◌<◌, Ok, Some, length, set, slice_get, IfOk, IfSome};
 ghost use Rattle.std.specs.Prelude.{OnOk};
 ghost use Rattle.spec_core.specs.declared.world.World.{World as Setting};
-ghost use Rattle.spec_core.specs.Specification.{Specification};
-ghost use Rattle.spec_core.specs.Meaning.{broken_at};
+ghost use Rattle.spec_core.specs.{Specification.{Specification}, Meaning.{broken_at}};
 ghost use Rattle.token_protocol.specs.Network.{Replica, outcome, events_of};
 ghost use Rattle.token_core.specs.HeldNet.{network_held};
 ghost use Rattle.simulate_text.specs.Course.{refusal_of, heard_by_all, broken_of, ran, void};
 ghost use Rattle.simulate_text.specs.Course.{granted, hears_grant, asks, begun, begins};
 ghost use Rattle.simulate_text.specs.Course.{is_waiting, tries_again, took, taken, takes};
 ghost use Rattle.simulate_text.specs.Unbroken.{IsUnbrokenAfter, AreUnbroken, StaysUnbroken};
-ghost use Rattle.simulate_text.specs.Unbroken.{IsLastCall};
-ghost use Rattle.simulate_text.specs.Reached.{IsOf, IsFirst, IsGone, Does};
+ghost use Rattle.simulate_text.specs.{Unbroken.{IsLastCall}, Reached.{IsOf, IsFirst, IsGone, Does}};
 
 use crate::said::{Said, SimulateRefused, Stop};
 use replay_text::{invariant_broken_after, invariant_broken_at};

@@ -2,8 +2,7 @@
 
 ghost use Rattle.std.specs.Prelude.{◌≡◌, ◌++◌, ℕ, ◌≤◌, ◌<◌, true, Some, length, slice_get, IfOk};
 ghost use Rattle.std.specs.Prelude.{OnOk};
-ghost use Rattle.spec_core.specs.declared.world.World.{World as Setting};
-ghost use Rattle.spec_core.specs.Fits.{world_fits};
+ghost use Rattle.spec_core.specs.{declared.world.World.{World as Setting}, Fits.{world_fits}};
 ghost use Rattle.replica_replay.specs.Steps.{operation_named as named_operation};
 ghost use Rattle.token_core.specs.HeldNet.{HeldReplica, replica_of as replica_held, network_held};
 ghost use Rattle.simulate_text.specs.Lines.{said_lines};

@@ -5,11 +5,8 @@
 
 ghost use Rattle.std.specs.Prelude.{◌≡◌, ℕ, ◌≤◌, true, List, [], ◌∷◌, ◌++◌, length};
 ghost use Rattle.std.specs.List.{list_all};
-ghost use Rattle.spec_core.specs.Limits.{most_variables};
-ghost use Rattle.spec_core.specs.Form.{form_of};
-ghost use Rattle.spec_core.specs.World.{tuples};
-ghost use Rattle.spec_core.specs.Truth.{truth};
-ghost use Rattle.spec_core.specs.Fits.{in_state_range, world_fits, form_fits};
+ghost use Rattle.spec_core.specs.{Limits.{most_variables}, Form.{form_of}, World.{tuples}};
+ghost use Rattle.spec_core.specs.{Truth.{truth}, Fits.{in_state_range, world_fits, form_fits}};
 ghost use Rattle.spec_core.specs.Choices.{all_choices, agrees};
 
 use crate::forced::{agrees, is_forced};

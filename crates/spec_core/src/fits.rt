@@ -1,7 +1,6 @@
 // Which worlds and calls fit a specification. Nothing here takes memory.
 
-ghost use Rattle.std.specs.Prelude.{◌≡◌, map, nat_le};
-ghost use Rattle.std.specs.List.{list_all};
+ghost use Rattle.std.specs.{Prelude.{◌≡◌, map, nat_le}, List.{list_all}};
 ghost use Rattle.spec_core.specs.Limits.{most_elements};
 ghost use Rattle.spec_core.specs.Fits.{fits_places, is_argument, are_arguments, in_state_range};
 ghost use Rattle.spec_core.specs.Fits.{world_fits, call_fits};

@@ -2,12 +2,9 @@
 //
 // The other variables have elements too, of which nothing is used: so the formula fits, and its atoms can be asked.
 
-ghost use Rattle.std.specs.Prelude.{◌≡◌, true, ◌&&◌};
-ghost use Rattle.std.specs.List.{list_all};
-ghost use Rattle.spec_core.specs.Form.{form_of};
-ghost use Rattle.spec_core.specs.Truth.{truth};
-ghost use Rattle.spec_core.specs.Fits.{in_state_range, world_fits, form_fits};
-ghost use Rattle.spec_core.specs.Choices.{agrees};
+ghost use Rattle.std.specs.{Prelude.{◌≡◌, true, ◌&&◌}, List.{list_all}};
+ghost use Rattle.spec_core.specs.{Form.{form_of}, Truth.{truth}};
+ghost use Rattle.spec_core.specs.{Fits.{in_state_range, world_fits, form_fits}, Choices.{agrees}};
 ghost use Rattle.spec_core.specs.Forced.{is_bound, body_bound, term_bound, atom_bound};
 ghost use Rattle.spec_core.specs.Forced.{atom_forced, is_forced};
 

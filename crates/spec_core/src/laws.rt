@@ -1,10 +1,8 @@
 // Laws of what a specification means.
 
 ghost use Rattle.std.specs.Prelude.{◌≡◌, true};
-ghost use Rattle.spec_core.specs.declared.world.World.{World};
-ghost use Rattle.spec_core.specs.declared.world.Call.{Call};
-ghost use Rattle.spec_core.specs.Specification.{Specification, op_of};
-ghost use Rattle.spec_core.specs.State.{Reads};
+ghost use Rattle.spec_core.specs.{declared.world.World.{World}, declared.world.Call.{Call}};
+ghost use Rattle.spec_core.specs.{Specification.{Specification, op_of}, State.{Reads}};
 ghost use Rattle.spec_core.specs.Meaning.{inv, pre, observed};
 ghost use Rattle.spec_core.specs.Fits.{is_world, is_call, OperationFits, AgreeOn};
 ghost use Rattle.spec_core.specs.Typed.{is_specification};

@@ -22,9 +22,7 @@ pub struct Prefixed {
 
 impl Model for Prefixed {
     ghost use Rattle.std.specs.Coded.{codes};
-    ghost use Rattle.spec_core.specs.Code.{coded_form};
-    ghost use Rattle.spec_core.specs.Form.{form_of};
-    ghost use Rattle.spec_core.specs.Line.{Line};
+    ghost use Rattle.spec_core.specs.{Code.{coded_form}, Form.{form_of}, Line.{Line}};
 
     ghost Value = { Line };
 

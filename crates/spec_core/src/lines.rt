@@ -1,9 +1,7 @@
 // Lines, invariants, preconditions and observations: which line is false first.
 
-ghost use Rattle.std.specs.Prelude.{◌≡◌, true, is_none};
-ghost use Rattle.std.specs.List.{list_all};
-ghost use Rattle.spec_core.specs.Specification.{op_of};
-ghost use Rattle.spec_core.specs.Truth.{line_true};
+ghost use Rattle.std.specs.{Prelude.{◌≡◌, true, is_none}, List.{list_all}};
+ghost use Rattle.spec_core.specs.{Specification.{op_of}, Truth.{line_true}};
 ghost use Rattle.spec_core.specs.Meaning.{broken_at, first_false, pre, observed};
 ghost use Rattle.spec_core.specs.Fits.{in_state_range, world_fits, call_fits, line_fits};
 

@@ -1,7 +1,6 @@
 // Names, seen as their bytes, and the test that a name is a word of the language.
 
-ghost use Rattle.std.specs.Prelude.{◌≡◌, ◌≤◌, length, IfOk};
-ghost use Rattle.std.specs.List.{list_all};
+ghost use Rattle.std.specs.{Prelude.{◌≡◌, ◌≤◌, length, IfOk}, List.{list_all}};
 ghost use Rattle.spec_core.specs.Limits.{most_name_bytes};
 ghost use Rattle.spec_core.specs.Name.{is_letter as is_letter_of, is_name_byte as is_name_byte_of};
 ghost use Rattle.spec_core.specs.Name.{is_word as is_word_of, is_word_name as is_word_name_of};

@@ -2,8 +2,7 @@
 
 ghost use Rattle.std.specs.Prelude.{◌≡◌, true};
 ghost use Rattle.spec_core.specs.Specification.{relation_places, counter_keys, token_places};
-ghost use Rattle.spec_core.specs.Specification.{places_of, op_of};
-ghost use Rattle.spec_core.specs.Typed.{is_specification};
+ghost use Rattle.spec_core.specs.{Specification.{places_of, op_of}, Typed.{is_specification}};
 
 use crate::line::Prefixed;
 use crate::name::Name;
@@ -78,10 +77,8 @@ pub struct Spec {
 }
 
 impl Model for Spec {
-    ghost use Rattle.std.specs.Prelude.{◌≡◌, true};
-    ghost use Rattle.std.specs.Coded.{codes};
-    ghost use Rattle.spec_core.specs.Code.{coded_form};
-    ghost use Rattle.spec_core.specs.Specification.{Specification};
+    ghost use Rattle.std.specs.{Prelude.{◌≡◌, true}, Coded.{codes}};
+    ghost use Rattle.spec_core.specs.{Code.{coded_form}, Specification.{Specification}};
     ghost use Rattle.spec_core.specs.Typed.{is_specification};
 
     ghost Value = { Specification };

@@ -4,16 +4,13 @@
 // 10^9, and a term has at most 16 summands.
 
 ghost use Rattle.std.specs.Prelude.{◌≡◌, ℕ, ◌≤◌, ◌*◌, ◌<◌, ◌^◌, ◌*ℤ◌, unsigned_abs, nat_lt, true};
-ghost use Rattle.std.specs.Prelude.{length};
-ghost use Rattle.std.specs.List.{list_all};
+ghost use Rattle.std.specs.{Prelude.{length}, List.{list_all}};
 ghost use Rattle.spec_core.specs.Limits.{most_places, most_keys, most_summands, greatest_literal};
-ghost use Rattle.spec_core.specs.Form.{form_of};
-ghost use Rattle.spec_core.specs.State.{Reads};
+ghost use Rattle.spec_core.specs.{Form.{form_of}, State.{Reads}};
 ghost use Rattle.spec_core.specs.Truth.{elem_of, elems_of, body_of, sum_of, term_of, compare_of};
 ghost use Rattle.spec_core.specs.Truth.{truth};
 ghost use Rattle.spec_core.specs.Fits.{in_state_range, world_fits, body_fits, summand_fits};
-ghost use Rattle.spec_core.specs.Fits.{term_fits, form_fits};
-ghost use Rattle.spec_core.specs.Sizes.{is_small};
+ghost use Rattle.spec_core.specs.{Fits.{term_fits, form_fits}, Sizes.{is_small}};
 
 use crate::formula::{Body, Cmp, Elem, Formula, Summand, Term};
 use crate::spec::Spec;

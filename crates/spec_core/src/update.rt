@@ -38,9 +38,7 @@ pub struct Update {
 
 impl Model for Update {
     ghost use Rattle.std.specs.Coded.{codes};
-    ghost use Rattle.spec_core.specs.Code.{coded_form};
-    ghost use Rattle.spec_core.specs.Form.{form_of};
-    ghost use Rattle.spec_core.specs.UpdateLine.{UpdateLine};
+    ghost use Rattle.spec_core.specs.{Code.{coded_form}, Form.{form_of}, UpdateLine.{UpdateLine}};
 
     ghost Value = { UpdateLine };
 

@@ -1,12 +1,9 @@
 // That some bytes are read as one tree, are one specification, or are refused for one reason, and never both.
 ghost use Rattle.std.specs.Prelude.{◌≡◌, ◌↔◌, ℕ, List};
-ghost use Rattle.word_cut.specs.declared.word.Word.{Word};
-ghost use Rattle.word_cut.specs.Words.{IsCut};
+ghost use Rattle.word_cut.specs.{declared.word.Word.{Word}, Words.{IsCut}};
 ghost use Rattle.spec_core.specs.Specification.{Specification};
-ghost use Rattle.spec_trees.specs.Form.{TreeForm};
-ghost use Rattle.spec_trees.specs.Place.{IsRead};
-ghost use Rattle.typing_rules.specs.Fault.{Fault};
-ghost use Rattle.typing_rules.specs.Sites.{specification_of};
+ghost use Rattle.spec_trees.specs.{Form.{TreeForm}, Place.{IsRead}};
+ghost use Rattle.typing_rules.specs.{Fault.{Fault}, Sites.{specification_of}};
 ghost use Rattle.typing_rules.specs.FaultRules.{IsLeastFault, HasNoFault};
 ghost use Rattle.spec_from_bytes.specs.Refusal.{IsTreeOf, IsReadAs, IsSpecificationOf, Refusal};
 ghost use Rattle.spec_from_bytes.specs.Refusal.{faulty, IsRefusal};

@@ -1,11 +1,9 @@
 // From bytes to a specification, or to the text that says why they are none.
 ghost use Rattle.std.specs.Prelude.{◌≡◌, ℕ, ◌++◌, ◌≤◌, ◌<◌, List, length, IfOk, OnOk, IsErrOf};
 ghost use Rattle.std.specs.Prelude.{codes, decimal, [], ◌∷◌};
-ghost use Rattle.byte_ports.specs.Faults.{IsFault};
-ghost use Rattle.byte_ports.specs.Told.{IsReadWithin};
+ghost use Rattle.byte_ports.specs.{Faults.{IsFault}, Told.{IsReadWithin}};
 ghost use Rattle.word_cut.specs.Words.{IsCut};
-ghost use Rattle.spec_trees.specs.Form.{TreeForm, tree_of};
-ghost use Rattle.spec_trees.specs.Trees.{IsTree};
+ghost use Rattle.spec_trees.specs.{Form.{TreeForm, tree_of}, Trees.{IsTree}};
 ghost use Rattle.typing_rules.specs.Items.{typing};
 ghost use Rattle.spec_types.specs.Refusals.{IsTypeRefusal};
 ghost use Rattle.spec_from_bytes.specs.Lines.{line};

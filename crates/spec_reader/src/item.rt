@@ -1,8 +1,7 @@
 // Reading the items of a specification.
 
 ghost use Rattle.std.specs.Prelude.{◌≡◌, length, map};
-ghost use Rattle.parser_combinators.specs.Gives.{Gives};
-ghost use Rattle.parser_combinators.specs.Read.{one_more, listed_at};
+ghost use Rattle.parser_combinators.specs.{Gives.{Gives}, Read.{one_more, listed_at}};
 ghost use Rattle.spec_trees.specs.Form.{item_of};
 ghost use Rattle.spec_reader.specs.Reading.{value_at, param_kind_at, param_at, params_at};
 ghost use Rattle.spec_reader.specs.Reading.{places_at, sort_item_at, const_item_at};

@@ -1,13 +1,9 @@
 // The law of reading what was spelled.
 
 ghost use Rattle.std.specs.Prelude.{◌≡◌, List};
-ghost use Rattle.word_cut.specs.declared.word.Word.{Word};
-ghost use Rattle.word_cut.specs.Words.{IsCut};
-ghost use Rattle.spec_trees.specs.Form.{TreeForm};
-ghost use Rattle.spec_trees.specs.Spelling.{spelling};
-ghost use Rattle.spec_trees.specs.Trees.{IsTree, SameTree};
-ghost use Rattle.spec_trees.specs.Place.{texts_of, IsRead};
-ghost use Rattle.spec_trees.specs.Layout.{text_of_tree};
+ghost use Rattle.word_cut.specs.{declared.word.Word.{Word}, Words.{IsCut}};
+ghost use Rattle.spec_trees.specs.{Form.{TreeForm}, Spelling.{spelling}, Trees.{IsTree, SameTree}};
+ghost use Rattle.spec_trees.specs.{Place.{texts_of, IsRead}, Layout.{text_of_tree}};
 
 /// What is spelled is cut into the words of the tree, and read as the same tree.
 pub fn law_spelled_is_read()

@@ -1,8 +1,7 @@
 // Reading the lines of an operation.
 
 ghost use Rattle.std.specs.Prelude.{◌≡◌, length, map};
-ghost use Rattle.parser_combinators.specs.Gives.{Gives};
-ghost use Rattle.parser_combinators.specs.Read.{one_more, listed_at};
+ghost use Rattle.parser_combinators.specs.{Gives.{Gives}, Read.{one_more, listed_at}};
 ghost use Rattle.spec_trees.specs.Form.{guard_of, sentence_of, line_of};
 ghost use Rattle.spec_reader.specs.Reading.{spot_at, spots_at, guard_at, mode_at, change_at};
 ghost use Rattle.spec_reader.specs.Reading.{amount_at, old_line_at, insert_at, remove_at, add_at};

@@ -3,10 +3,8 @@
 ghost use Rattle.std.specs.Prelude.{◌≡◌, ◌≤◌, ◌<◌, length, IfOk, IfErr};
 ghost use Rattle.word_cut.specs.Words.{IsCut};
 ghost use Rattle.parser_combinators.specs.Gives.{Gives};
-ghost use Rattle.spec_trees.specs.Form.{TreeForm, tree_of};
-ghost use Rattle.spec_trees.specs.Spelling.{spelling};
-ghost use Rattle.spec_trees.specs.Trees.{IsTree, SameTree};
-ghost use Rattle.spec_trees.specs.Place.{texts_of, IsRead};
+ghost use Rattle.spec_trees.specs.{Form.{TreeForm, tree_of}, Spelling.{spelling}};
+ghost use Rattle.spec_trees.specs.{Trees.{IsTree, SameTree}, Place.{texts_of, IsRead}};
 ghost use Rattle.spec_reader.specs.Refused.{IsRefusedAt, IsReadUnlessMemory};
 ghost use Rattle.spec_reader.specs.Reading.{version_at, tree_by, whole_by};
 

@@ -1,8 +1,7 @@
 // Reading formulas with their variables.
 
 ghost use Rattle.std.specs.Prelude.{◌≡◌, length};
-ghost use Rattle.parser_combinators.specs.Gives.{Gives};
-ghost use Rattle.parser_combinators.specs.Read.{one_more};
+ghost use Rattle.parser_combinators.specs.{Gives.{Gives}, Read.{one_more}};
 ghost use Rattle.spec_trees.specs.Form.{sentence_of};
 ghost use Rattle.spec_reader.specs.Reading.{variable_at, variables_at, prefix_at, sentence_at};
 

@@ -1,8 +1,7 @@
 // Reading single words: names, numbers, and the signs that stand between.
 
 ghost use Rattle.std.specs.Prelude.{◌≡◌, ◌≤◌, length, Ok};
-ghost use Rattle.parser_combinators.specs.Gives.{Gives};
-ghost use Rattle.parser_combinators.specs.Words.{name_of, value_of};
+ghost use Rattle.parser_combinators.specs.{Gives.{Gives}, Words.{name_of, value_of}};
 ghost use Rattle.spec_reader.specs.Reading.{name_at, figure_at, is_sign as sign_test};
 ghost use Rattle.spec_reader.specs.Reading.{sign_of as sign_for, plus_at};
 ghost use Rattle.spec_reader.specs.Reading.{is_comparison as comparison_test};

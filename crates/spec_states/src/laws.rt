@@ -1,10 +1,8 @@
 // The law of the text of a state.
 
 ghost use Rattle.std.specs.Prelude.{◌≡◌};
-ghost use Rattle.spec_core.specs.declared.world.World.{World};
-ghost use Rattle.spec_core.specs.Specification.{Specification};
-ghost use Rattle.spec_core.specs.State.{Reads};
-ghost use Rattle.spec_core.specs.Fits.{AgreeOn};
+ghost use Rattle.spec_core.specs.{declared.world.World.{World}, Specification.{Specification}};
+ghost use Rattle.spec_core.specs.{State.{Reads}, Fits.{AgreeOn}};
 ghost use Rattle.spec_states.specs.StateText.{state_text};
 
 /// The text of a state depends on the readings at fitting tuples and keys alone.

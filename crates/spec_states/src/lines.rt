@@ -1,8 +1,7 @@
 // The lines by which reports and replays show a state.
 
 ghost use Rattle.std.specs.Prelude.{◌≡◌, ℕ, ℤ, ◌∷◌, ◌++◌, OnOk, map};
-ghost use Rattle.std.specs.Fmt.{decimal, signed_decimal};
-ghost use Rattle.std.specs.List.{flat_map};
+ghost use Rattle.std.specs.{Fmt.{decimal, signed_decimal}, List.{flat_map}};
 ghost use Rattle.spec_states.specs.StateText.{spaced, true_line, count_line};
 
 use std::alloc::{AllocError, Global};

@@ -3,14 +3,10 @@
 // Both are ordered maps, so a reading is a look-up, and going through them gives tuples and keys in rising order.
 
 ghost use Rattle.std.specs.Prelude.{◌≡◌, [], OnOk, OnErr, IfOk, List, ℕ, ◌++◌, ◌||◌, cond, true};
-ghost use Rattle.std.specs.Prelude.{false, map};
-ghost use Rattle.std.specs.Str.{bytes_eq};
-ghost use Rattle.std.specs.List.{list_all, flat_map};
-ghost use Rattle.spec_core.specs.State.{is_in, count_in, is_rising, listed_keys};
-ghost use Rattle.spec_core.specs.Truth.{int_eq};
-ghost use Rattle.spec_states.specs.StateText.{true_line, count_line};
-ghost use Rattle.spec_states.specs.Same.{agrees_at_keys};
+ghost use Rattle.std.specs.{Prelude.{false, map}, Str.{bytes_eq}, List.{list_all, flat_map}};
+ghost use Rattle.spec_core.specs.{State.{is_in, count_in, is_rising, listed_keys}, Truth.{int_eq}};
 ghost use Rattle.spec_core.specs.Fits.{fits_places, in_state_range, is_counts};
+ghost use Rattle.spec_states.specs.{StateText.{true_line, count_line}, Same.{agrees_at_keys}};
 
 use crate::lines::{write_tuples, write_values};
 use spec_core::World;

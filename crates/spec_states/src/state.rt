@@ -4,17 +4,15 @@
 
 ghost use Rattle.std.specs.Prelude.{◌≡◌, ℕ, ◌<◌, ◌≤◌, unsigned_abs, List, true, length, ◌++◌, []};
 ghost use Rattle.std.specs.Prelude.{OnOk, OnErr, IfOk, IsTrue, ◌↔◌, ◌==◌, ◌&&◌, ◌||◌};
-ghost use Rattle.std.specs.Str.{bytes_eq};
-ghost use Rattle.std.specs.Prelude.{replicate};
-ghost use Rattle.spec_core.specs.declared.world.World.{World};
-ghost use Rattle.spec_core.specs.Limits.{greatest_value};
+ghost use Rattle.std.specs.{Str.{bytes_eq}, Prelude.{replicate}};
+ghost use Rattle.spec_core.specs.{declared.world.World.{World}, Limits.{greatest_value}};
 ghost use Rattle.spec_core.specs.Specification.{Specification, relation_places, counter_keys};
 ghost use Rattle.spec_core.specs.State.{reads, nothing, with_has, with_count, is_listed};
-ghost use Rattle.spec_states.specs.StateText.{true_lines, count_lines, state_text, listed_text};
-ghost use Rattle.spec_states.specs.Same.{lists_within, values_agree, same_listing};
 ghost use Rattle.spec_core.specs.Meaning.{initial};
 ghost use Rattle.spec_core.specs.Fits.{in_state_range, fits_places, lists_fit, values_fit};
 ghost use Rattle.spec_core.specs.Fits.{is_state, is_listing, world_fits};
+ghost use Rattle.spec_states.specs.StateText.{true_lines, count_lines, state_text, listed_text};
+ghost use Rattle.spec_states.specs.Same.{lists_within, values_agree, same_listing};
 
 use crate::initial::{first_counters, first_relations};
 use crate::listed::{Counts, Tuples};
@@ -32,8 +30,7 @@ pub struct State {
 
 impl Model for State {
     ghost use Rattle.std.specs.Prelude.{◌≡◌, true};
-    ghost use Rattle.spec_core.specs.State.{Listing};
-    ghost use Rattle.spec_core.specs.Fits.{is_listing};
+    ghost use Rattle.spec_core.specs.{State.{Listing}, Fits.{is_listing}};
 
     ghost Value = { Listing };
 

@@ -2,9 +2,7 @@
 
 ghost use Rattle.std.specs.Prelude.{◌≤◌, ◌↔◌};
 ghost use Rattle.parser_combinators.specs.declared.token.Version.{Version};
-ghost use Rattle.spec_trees.specs.Form.{Form};
-ghost use Rattle.spec_trees.specs.Trees.{FormFits};
-ghost use Rattle.spec_trees.specs.Depth.{depth, NamesFree};
+ghost use Rattle.spec_trees.specs.{Form.{Form}, Trees.{FormFits}, Depth.{depth, NamesFree}};
 
 /// The formulas of the grammar are those that nest at most 200 deep.
 pub fn law_depth()

@@ -2,11 +2,9 @@
 
 #![tactic(auto, using(crate::proofs::Laying::laying))]
 
-ghost use Rattle.std.specs.Prelude.{◌≡◌, ◌++◌, OnOk, IfOk, vec_len};
-ghost use Rattle.std.specs.Fmt.{decimal};
+ghost use Rattle.std.specs.{Prelude.{◌≡◌, ◌++◌, OnOk, IfOk, vec_len}, Fmt.{decimal}};
 ghost use Rattle.parser_combinators.specs.Texts.{text_of};
-ghost use Rattle.spec_trees.specs.Form.{tree_of};
-ghost use Rattle.spec_trees.specs.Layout.{begins_line as line_test};
+ghost use Rattle.spec_trees.specs.{Form.{tree_of}, Layout.{begins_line as line_test}};
 ghost use Rattle.spec_trees.specs.Layout.{begins_indented as indented_test, before as before_text};
 ghost use Rattle.spec_trees.specs.Layout.{behind, laid_out, text_of_tree};
 

@@ -4,8 +4,7 @@ ghost use Rattle.std.specs.Prelude.{◌≡◌, ◌<◌, ◌∷◌, ◌++◌, [],
 ghost use Rattle.std.specs.Prelude.{IfOk, IfNone};
 ghost use Rattle.spec_trees.specs.Form.{sort_form, const_form, relation_form, counter_form};
 ghost use Rattle.spec_trees.specs.Form.{token_form};
-ghost use Rattle.typing_rules.specs.Fault.{◌otherwise◌};
-ghost use Rattle.typing_rules.specs.Scope.{with_name};
+ghost use Rattle.typing_rules.specs.{Fault.{◌otherwise◌}, Scope.{with_name}};
 ghost use Rattle.typing_rules.specs.Items.{heading_fault as heading_fault_of};
 ghost use Rattle.typing_rules.specs.Items.{sorts_fault as sorts_fault_of};
 ghost use Rattle.typing_rules.specs.Items.{sort_numbers as sort_numbers_of};
@@ -14,10 +13,8 @@ ghost use Rattle.typing_rules.specs.Items.{few_consts_fault as few_consts_fault_
 ghost use Rattle.typing_rules.specs.Items.{const_fault as const_fault_of};
 ghost use Rattle.typing_rules.specs.Items.{place_number as place_number_of, with_sort, with_const};
 ghost use Rattle.typing_rules.specs.Items.{with_relation, with_counter, with_token, typed_item};
-ghost use Rattle.spec_types.specs.Refusals.{Makes};
-ghost use Rattle.spec_types.specs.faults.Names.{meaning_in};
-ghost use Rattle.spec_types.specs.faults.Views.{faulted};
-ghost use Rattle.spec_types.specs.Views.{known_of};
+ghost use Rattle.spec_types.specs.{Refusals.{Makes}, faults.Names.{meaning_in}};
+ghost use Rattle.spec_types.specs.{faults.Views.{faulted}, Views.{known_of}};
 
 use crate::faults::{Draft, Fault, Names, declared_fault, limit_at, sort_fault, sort_number};
 use crate::known::{Known, heading_fault, scope_in, sort_numbers, sorts_fault};

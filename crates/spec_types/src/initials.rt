@@ -8,10 +8,8 @@ ghost use Rattle.typing_rules.specs.Items.{truth_of as truth_of_value};
 ghost use Rattle.typing_rules.specs.Items.{number_of as number_of_value, initial_truth};
 ghost use Rattle.typing_rules.specs.Items.{initial_number, initial_design, with_initial};
 ghost use Rattle.typing_rules.specs.Items.{typed_item};
-ghost use Rattle.spec_types.specs.faults.Names.{meaning_in};
-ghost use Rattle.spec_types.specs.Refusals.{Makes};
-ghost use Rattle.spec_types.specs.faults.Views.{faulted};
-ghost use Rattle.spec_types.specs.Views.{known_of};
+ghost use Rattle.spec_types.specs.{faults.Names.{meaning_in}, Refusals.{Makes}};
+ghost use Rattle.spec_types.specs.{faults.Views.{faulted}, Views.{known_of}};
 
 use crate::elaborating::literal_of;
 use crate::faults::{Draft, Fault, literal_fault};

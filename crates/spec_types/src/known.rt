@@ -7,8 +7,7 @@ ghost use Rattle.typing_rules.specs.Items.{place_fault as place_fault_of};
 ghost use Rattle.typing_rules.specs.Items.{sorts_fault as sorts_fault_of};
 ghost use Rattle.typing_rules.specs.Items.{sort_numbers as sort_numbers_of};
 ghost use Rattle.typing_rules.specs.Items.{nothing_known as nothing_known_of};
-ghost use Rattle.spec_types.specs.faults.Names.{meaning_in};
-ghost use Rattle.spec_types.specs.faults.Views.{faulted, scope_of};
+ghost use Rattle.spec_types.specs.{faults.Names.{meaning_in}, faults.Views.{faulted, scope_of}};
 ghost use Rattle.spec_types.specs.Views.{known_of};
 
 use crate::faults::{

@@ -14,10 +14,8 @@ ghost use Rattle.typing_rules.specs.Items.{param_fault as param_fault_of};
 ghost use Rattle.typing_rules.specs.Items.{params_fault as params_fault_of};
 ghost use Rattle.typing_rules.specs.Items.{without_lines as without_lines_of, typed_operation};
 ghost use Rattle.typing_rules.specs.Items.{typed_item};
-ghost use Rattle.spec_types.specs.faults.Names.{meaning_in};
-ghost use Rattle.spec_types.specs.Refusals.{Gives, Makes};
-ghost use Rattle.spec_types.specs.faults.Views.{faulted, scope_of};
-ghost use Rattle.spec_types.specs.Views.{known_of};
+ghost use Rattle.spec_types.specs.{faults.Names.{meaning_in}, Refusals.{Gives, Makes}};
+ghost use Rattle.spec_types.specs.{faults.Views.{faulted, scope_of}, Views.{known_of}};
 
 use crate::elaborating::{add_line, sentence_of};
 use crate::faults::{

@@ -2,8 +2,7 @@
 
 ghost use Rattle.std.specs.Prelude.{◌≡◌, Err, IfOk};
 ghost use Rattle.spec_core.specs.Specification.{Specification};
-ghost use Rattle.spec_types.specs.Refusals.{IsTypeRefusal};
-ghost use Rattle.spec_types.specs.faults.Views.{fault_of};
+ghost use Rattle.spec_types.specs.{Refusals.{IsTypeRefusal}, faults.Views.{fault_of}};
 ghost use Rattle.spec_types.specs.declared.refusal.Stop.TheVariants as stop;
 
 use crate::faults::Fault;

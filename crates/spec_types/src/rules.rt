@@ -13,9 +13,7 @@ ghost use Rattle.typing_rules.specs.Items.{pattern_fault as pattern_fault_of};
 ghost use Rattle.typing_rules.specs.Items.{conflict_fault as conflict_fault_of};
 ghost use Rattle.typing_rules.specs.Items.{variable_number as variable_number_of};
 ghost use Rattle.typing_rules.specs.Items.{pattern_of as pattern_of_reading, with_rule, typed_item};
-ghost use Rattle.spec_types.specs.Refusals.{Makes};
-ghost use Rattle.spec_types.specs.faults.Views.{faulted};
-ghost use Rattle.spec_types.specs.Views.{known_of};
+ghost use Rattle.spec_types.specs.{Refusals.{Makes}, faults.Views.{faulted}, Views.{known_of}};
 
 use crate::faults::{
     Fault, is_of_sort, limit_at, places_fault, small, stranger_fault, token_places,

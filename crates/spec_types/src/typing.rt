@@ -2,8 +2,7 @@
 
 ghost use Rattle.std.specs.Prelude.{◌≡◌, map, true, Ok, IfOk, IfErr};
 ghost use Rattle.spec_core.specs.Typed.{is_specification};
-ghost use Rattle.spec_trees.specs.Form.{item_of, tree_of};
-ghost use Rattle.spec_trees.specs.Trees.{IsTree};
+ghost use Rattle.spec_trees.specs.{Form.{item_of, tree_of}, Trees.{IsTree}};
 ghost use Rattle.typing_rules.specs.Items.{typed_item, typed_items, typing};
 ghost use Rattle.typing_rules.specs.FaultRules.{IsWritten, IsTypingOf};
 ghost use Rattle.spec_types.specs.Refusals.{IsTypeRefusal, IsLeastRefusal, Makes};

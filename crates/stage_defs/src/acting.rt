@@ -3,8 +3,7 @@ ghost use Rattle.std.specs.Prelude.{◌≡◌, None, Some, false, cond, slice_ge
 ghost use Rattle.std.specs.Option.{option_map};
 ghost use Rattle.ground_problem.specs.Definitions as definitions;
 ghost use Rattle.ground_numbers.specs.Numbered.{known};
-ghost use Rattle.ground_atoms.specs.Formulas.{form_of};
-ghost use Rattle.ground_atoms.specs.Staying.{NumbersStay};
+ghost use Rattle.ground_atoms.specs.{Formulas.{form_of}, Staying.{NumbersStay}};
 ghost use Rattle.stage_defs.specs.Settings.{readings_in, caller_in, IsMade};
 ghost use Rattle.stage_defs.specs.Parts.{joined, make_parts, spot_at};
 

@@ -3,8 +3,7 @@ ghost use Rattle.std.specs.Prelude.{◌≡◌, IfOk, get_or};
 ghost use Rattle.spec_core.specs.Specification.{no_relation};
 ghost use Rattle.ground_problem.specs.Symbols as symbols;
 ghost use Rattle.ground_problem.specs.Formulas.{comparison};
-ghost use Rattle.ground_atoms.specs.Symbols.{parts_of};
-ghost use Rattle.ground_atoms.specs.Staying.{NumbersStay};
+ghost use Rattle.ground_atoms.specs.{Symbols.{parts_of}, Staying.{NumbersStay}};
 ghost use Rattle.stage_defs.specs.Settings.{readings_in, IsMade};
 
 use crate::connecting::{both, either};

@@ -2,12 +2,9 @@
 ghost use Rattle.std.specs.Prelude.{◌≡◌, [], length, map, IfOk, OnOk};
 ghost use Rattle.spec_core.specs.declared.update.Thing.TheVariants as thing;
 ghost use Rattle.ground_problem.specs.Symbols as symbols;
-ghost use Rattle.ground_atoms.specs.Making.{make_all};
-ghost use Rattle.ground_atoms.specs.Formulas.{form_of};
-ghost use Rattle.ground_atoms.specs.Staying.{NumbersStay};
+ghost use Rattle.ground_atoms.specs.{Making.{make_all}, Formulas.{form_of}, Staying.{NumbersStay}};
 ghost use Rattle.stage_defs.specs.Settings.{readings_in, caller_in, has_definition, has_defined};
-ghost use Rattle.stage_defs.specs.Settings.{itself, updated_by, IsMade};
-ghost use Rattle.stage_defs.specs.Parts.{has_upto};
+ghost use Rattle.stage_defs.specs.{Settings.{itself, updated_by, IsMade}, Parts.{has_upto}};
 
 use crate::acting::acts_on;
 use crate::comparing::has;

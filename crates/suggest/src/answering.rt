@@ -1,13 +1,11 @@
 // The answers for all pairs, without a text.
 
-ghost use Rattle.std.specs.Prelude.{◌≡◌, ◌≤◌, IfOk};
-ghost use Rattle.std.specs.List.{Contains};
+ghost use Rattle.std.specs.{Prelude.{◌≡◌, ◌≤◌, IfOk}, List.{Contains}};
 ghost use Rattle.conflict_variants.specs.Bare.{bare as bare_of};
 ghost use Rattle.conflict_variants.specs.Keyed.{CanBeKeyed, keyed as keyed_of};
 ghost use Rattle.suggest.specs.Pairs.{IsPair, pairs_of, keys_of};
 ghost use Rattle.suggest.specs.Answers.{HaveLogs, IsFoundIn, AreKeyAnswers, IsAnswer, AreAnswers};
-ghost use Rattle.suggest.specs.Answers.{keys_after};
-ghost use Rattle.suggest.specs.declared.answer.Pair.{Pair};
+ghost use Rattle.suggest.specs.{Answers.{keys_after}, declared.answer.Pair.{Pair}};
 ghost use Rattle.suggest.specs.declared.answer.Key.{Key};
 
 use crate::answer::{Found, Key, KeyAnswer, Pair, PairAnswer};

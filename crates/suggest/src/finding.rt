@@ -1,15 +1,13 @@
 // What the obligations of a pair come to.
 
-ghost use Rattle.std.specs.Prelude.{◌≡◌, ◌≤◌, ℕ, ◌∷◌, List, IfOk, OnOk, IsTrue};
-ghost use Rattle.std.specs.List.{Contains};
+ghost use Rattle.std.specs.{Prelude.{◌≡◌, ◌≤◌, ℕ, ◌∷◌, List, IfOk, OnOk, IsTrue}, List.{Contains}};
 ghost use Rattle.spec_core.specs.Specification.{Specification};
 ghost use Rattle.obligation_list.specs.declared.obligation.Obligation.{Obligation};
 ghost use Rattle.obligation_list.specs.Obligations.{IsObligation};
 ghost use Rattle.report_bytes.specs.Showing.{shown_cause};
 ghost use Rattle.check_run.specs.Good.{IsGood};
 ghost use Rattle.conflict_variants.specs.Bare.{bare as bare_of};
-ghost use Rattle.suggest.specs.Answers.{HaveLogs, IsFound, IsFoundIn};
-ghost use Rattle.suggest.specs.Writing.{CanBeWritten};
+ghost use Rattle.suggest.specs.{Answers.{HaveLogs, IsFound, IsFoundIn}, Writing.{CanBeWritten}};
 
 use crate::answer::{Found, Pair};
 use crate::known::Known;

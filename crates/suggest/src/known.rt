@@ -7,8 +7,7 @@
 ghost use Rattle.std.specs.Prelude.{◌≡◌, ◌≤◌, ℕ, IfOk, IfSome};
 ghost use Rattle.obligation_list.specs.Obligations.{IsObligation};
 ghost use Rattle.report_bytes.specs.Showing.{shown_verdict, IsFit};
-ghost use Rattle.check_run.specs.Good.{IsGood};
-ghost use Rattle.check_run.specs.Reports.{written_version};
+ghost use Rattle.check_run.specs.{Good.{IsGood}, Reports.{written_version}};
 
 use check_run::{decide, refuted_by};
 use items::Items;

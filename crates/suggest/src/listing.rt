@@ -1,8 +1,8 @@
 // The lists of pairs, of their obligations, and of their parameters of one sort.
 
 ghost use Rattle.std.specs.Prelude.{◌≡◌, ◌++◌, ◌∷◌, [], nat_le, if◌then◌else◌, length, OnOk, IfOk};
-ghost use Rattle.spec_core.specs.Specification.{op_of};
 ghost use Rattle.std.specs.List.{filter, Contains};
+ghost use Rattle.spec_core.specs.Specification.{op_of};
 ghost use Rattle.spec_core.specs.Typed.{sort_of_kind as sort_of_kind_of, same_sort as same_sort_of};
 ghost use Rattle.obligation_list.specs.declared.obligation.Obligation.{Obligation};
 ghost use Rattle.obligation_list.specs.Obligations.{IsObligation};
@@ -10,8 +10,7 @@ ghost use Rattle.conflict_variants.specs.Keyed.{sort_of_parameter as sort_of_par
 ghost use Rattle.conflict_variants.specs.Keyed.{CanBeKeyed};
 ghost use Rattle.suggest.specs.Pairs.{is_of_pair as is_of_pair_in, obligations_of_pair, IsPair};
 ghost use Rattle.suggest.specs.Pairs.{pair_at, key_at, pairs_from, pairs_of as pairs_in, keys_from};
-ghost use Rattle.suggest.specs.Pairs.{keys_of as keys_in};
-ghost use Rattle.suggest.specs.declared.answer.Pair.{Pair};
+ghost use Rattle.suggest.specs.{Pairs.{keys_of as keys_in}, declared.answer.Pair.{Pair}};
 ghost use Rattle.suggest.specs.declared.answer.Key.{Key};
 
 use crate::answer::{Key, Pair};

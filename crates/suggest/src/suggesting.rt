@@ -1,13 +1,11 @@
 // The text of a suggestion, written pair by pair.
 
 ghost use Rattle.std.specs.Prelude.{◌≡◌, ◌≤◌, length, IfErr};
-ghost use Rattle.byte_ports.specs.Faults.{IsFault};
-ghost use Rattle.byte_ports.specs.declared.text.WriteOut.TheVariants.{Fault};
+ghost use Rattle.byte_ports.specs.{Faults.{IsFault}, declared.text.WriteOut.TheVariants.{Fault}};
 ghost use Rattle.byte_ports.specs.Written.{IsText};
 ghost use Rattle.check_run.specs.Checking.{HasTold, progress};
 ghost use Rattle.conflict_variants.specs.Bare.{bare as bare_of};
-ghost use Rattle.suggest.specs.Pairs.{pairs_of};
-ghost use Rattle.suggest.specs.Texts.{head_text, end_text};
+ghost use Rattle.suggest.specs.{Pairs.{pairs_of}, Texts.{head_text, end_text}};
 ghost use Rattle.suggest.specs.Writing.{AreListed, IsPairWritten, ArePairs, IsSuggested};
 
 use crate::answer::{Pair, SuggestTally};

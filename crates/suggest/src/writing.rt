@@ -4,8 +4,7 @@ ghost use Rattle.std.specs.Prelude.{◌≡◌, ◌++◌, ◌∷◌, [], suc, len
 ghost use Rattle.std.specs.List.{Contains};
 ghost use Rattle.obligation_list.specs.Obligations.{IsObligation};
 ghost use Rattle.proof_report.specs.Texts.{block_text, CanStand};
-ghost use Rattle.conflict_variants.specs.Bare.{bare as bare_of};
-ghost use Rattle.conflict_variants.specs.Keyed.{CanBeKeyed};
+ghost use Rattle.conflict_variants.specs.{Bare.{bare as bare_of}, Keyed.{CanBeKeyed}};
 ghost use Rattle.report_lines.specs.Words.{line_text};
 ghost use Rattle.suggest.specs.Pairs.{pairs_of, keys_of};
 ghost use Rattle.suggest.specs.Answers.{HaveLogs, is_refuted as is_refuted_of, keys_after};
@@ -15,8 +14,7 @@ ghost use Rattle.suggest.specs.Texts.{pair_word as pair_word_of, key_word as key
 ghost use Rattle.suggest.specs.Texts.{head_text, end_text, last_word as last_word_of};
 ghost use Rattle.suggest.specs.Writing.{CanBeWritten, IsKeyAppended, AreKeysAppended, draft};
 ghost use Rattle.suggest.specs.Writing.{IsBareAppended, IsPairAppended};
-ghost use Rattle.suggest.specs.declared.answer.Key.{Key};
-ghost use Rattle.suggest.specs.declared.answer.Found.{Found};
+ghost use Rattle.suggest.specs.{declared.answer.Key.{Key}, declared.answer.Found.{Found}};
 
 use crate::answer::{Found, Key, SuggestTally};
 use crate::finding::{find_bare, find_in};

@@ -1,6 +1,5 @@
 // What a Conflict means: no whole numbers satisfy the rows.
-ghost use Rattle.std.specs.Prelude.{◌≡◌, true, IsTrue};
-ghost use Rattle.std.specs.List.{list_all};
+ghost use Rattle.std.specs.{Prelude.{◌≡◌, true, IsTrue}, List.{list_all}};
 ghost use Rattle.lin_rows.specs.Rows.{is_row};
 ghost use Rattle.theory_api.specs.Laws.{AreUnsatisfiable, all_below};
 

@@ -4,10 +4,8 @@ ghost use Rattle.std.specs.Prelude.{◌≡◌, ◌<◌, true, Some, length, slic
 ghost use Rattle.std.specs.Option.{is_some};
 ghost use Rattle.spec_core.specs.Fits.{is_state};
 ghost use Rattle.token_protocol.specs.declared.network.NetStep.TheVariants as step;
-ghost use Rattle.token_protocol.specs.Network.{first_network};
-ghost use Rattle.token_protocol.specs.Executed.{IsExecuted, IsGranted};
-ghost use Rattle.token_core.specs.HeldNet.{HeldReplica, network_held};
-ghost use Rattle.token_core.specs.Fields.{IsFirst};
+ghost use Rattle.token_protocol.specs.{Network.{first_network}, Executed.{IsExecuted, IsGranted}};
+ghost use Rattle.token_core.specs.{HeldNet.{HeldReplica, network_held}, Fields.{IsFirst}};
 ghost use Rattle.token_core.specs.Stepped.{IsStepped, IsCounted};
 
 use crate::log::{Happened, Log};
@@ -41,8 +39,7 @@ pub struct Net<R: Runner + Drop> {
 impl<R: Runner + Drop> Model for Net<R> {
     ghost use Rattle.std.specs.Coded.{codes};
     ghost use Rattle.spec_core.specs.Code.{coded_form};
-    ghost use Rattle.token_core.specs.HeldNet.{HeldNet};
-    ghost use Rattle.token_core.specs.Fields.{held_in, IsNet};
+    ghost use Rattle.token_core.specs.{HeldNet.{HeldNet}, Fields.{held_in, IsNet}};
 
     ghost Value = { HeldNet };
 

@@ -2,10 +2,8 @@
 
 ghost use Rattle.std.specs.Prelude.{◌≡◌, ◌<◌, ◌||◌, not, true, None, IfOk, OnOk};
 ghost use Rattle.std.specs.Option.{option_copied};
-ghost use Rattle.spec_core.specs.State.{reads};
-ghost use Rattle.spec_core.specs.Fits.{call_fits, is_state};
-ghost use Rattle.effectors.specs.Effect.{after, after_call};
-ghost use Rattle.effectors.specs.Beyond.{first_beyond};
+ghost use Rattle.spec_core.specs.{State.{reads}, Fits.{call_fits, is_state}};
+ghost use Rattle.effectors.specs.{Effect.{after, after_call}, Beyond.{first_beyond}};
 ghost use Rattle.effectors.specs.Spare.{IsSpare};
 ghost use Rattle.token_protocol.specs.Ids.{is_among};
 ghost use Rattle.token_protocol.specs.Node.{takes_none, turn_of, run, first_node, begin, hear};
@@ -13,8 +11,8 @@ ghost use Rattle.token_protocol.specs.Node.{hear_grant, grant_open, hear_done, t
 ghost use Rattle.token_protocol.specs.Node.{hear_void, first_open as first_open_of};
 ghost use Rattle.token_core.specs.Held.{node_of, FitsIn, waiting_fits, message_fits};
 ghost use Rattle.token_core.specs.Answered.{waiting_turn, HasRun, HasBegun, HasHeard};
-ghost use Rattle.replica_replay.specs.Tried.{IsTried};
 ghost use Rattle.token_core.specs.Ended.{begun_of, heard_of, refused_effect};
+ghost use Rattle.replica_replay.specs.Tried.{IsTried};
 
 use crate::ids::Ids;
 use effectors::ApplyRefused;

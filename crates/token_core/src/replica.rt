@@ -2,12 +2,10 @@
 
 ghost use Rattle.std.specs.Prelude.{◌≡◌, ℕ, ◌<◌, ◌⊎◌, true, [], ◌∷◌, ◌++◌, ◌^◌, Option, Some, Err};
 ghost use Rattle.std.specs.Prelude.{List, bytes_eq, length, set, slice_get, vec_len, vec_capacity};
-ghost use Rattle.std.specs.Prelude.{IfOk, OnOk, OnErr};
-ghost use Rattle.std.specs.Option.{option_map};
+ghost use Rattle.std.specs.{Prelude.{IfOk, OnOk, OnErr}, Option.{option_map}};
 ghost use Rattle.token_protocol.specs.declared.message.Request.{Request as Waiting};
 ghost use Rattle.token_protocol.specs.declared.message.Message.{Message as Sent};
-ghost use Rattle.token_protocol.specs.declared.granted.Granted.{Granted};
-ghost use Rattle.token_protocol.specs.Node.{begin};
+ghost use Rattle.token_protocol.specs.{declared.granted.Granted.{Granted}, Node.{begin}};
 ghost use Rattle.token_protocol.specs.Network.{Replica as ReplicaOf, number_of as number_of_call};
 ghost use Rattle.token_protocol.specs.Network.{node_refused, begin_at, hears_message, asks};
 ghost use Rattle.token_protocol.specs.Network.{network_after, answer};

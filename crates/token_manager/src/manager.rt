@@ -5,15 +5,12 @@
 // an earlier call that takes the same tokens: it names all before it that conflict, so only those from it on are met.
 
 ghost use Rattle.std.specs.Prelude.{◌≡◌, [], ◌∷◌, ◌++◌, cond, map, filter, drop, slice_get, OnOk};
-ghost use Rattle.std.specs.Prelude.{OnErr, IfOk, IfSome};
-ghost use Rattle.std.specs.List.{find};
+ghost use Rattle.std.specs.{Prelude.{OnErr, IfOk, IfSome}, List.{find}};
 ghost use Rattle.std.specs.Option.{option_copied, option_map};
 ghost use Rattle.token_protocol.specs.Manager.{conflicting, grant_of, grant_message, new_grant};
 ghost use Rattle.token_protocol.specs.Manager.{asked};
-ghost use Rattle.token_rules.specs.Conflict.{conflicts};
-ghost use Rattle.token_rules.specs.Rivals.{rivals_of};
-ghost use Rattle.token_manager.specs.Index.{numbers_from};
-ghost use Rattle.token_manager.specs.Named.{id_if, ids_at};
+ghost use Rattle.token_rules.specs.{Conflict.{conflicts}, Rivals.{rivals_of}};
+ghost use Rattle.token_manager.specs.{Index.{numbers_from}, Named.{id_if, ids_at}};
 ghost use Rattle.token_manager.specs.Grants.{AreGrants, IsAlikeAt};
 
 use crate::alike::{take_alike, token_sum};

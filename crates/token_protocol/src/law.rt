@@ -1,13 +1,11 @@
 // Why a network is an execution.
 
 ghost use Rattle.std.specs.Prelude.{◌≡◌, ℕ, true, false, List};
-ghost use Rattle.spec_core.specs.declared.world.World.{World};
-ghost use Rattle.spec_core.specs.declared.world.Call.{Call};
+ghost use Rattle.spec_core.specs.{declared.world.World.{World}, declared.world.Call.{Call}};
 ghost use Rattle.spec_core.specs.Specification.{Specification};
 ghost use Rattle.token_rules.specs.Conflict.{conflicts};
 ghost use Rattle.obligation_list.specs.Breaking.{Safe};
-ghost use Rattle.token_protocol.specs.declared.network.NetStep.{NetStep};
-ghost use Rattle.token_protocol.specs.Node.{takes_none};
+ghost use Rattle.token_protocol.specs.{declared.network.NetStep.{NetStep}, Node.{takes_none}};
 ghost use Rattle.token_protocol.specs.Network.{network_of};
 ghost use Rattle.token_protocol.specs.Executed.{IsExecuted, IsGranted, NetworksConverge};
 

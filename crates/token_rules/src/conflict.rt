@@ -1,7 +1,6 @@
 // Whether two calls conflict. Nothing here takes memory.
 
-ghost use Rattle.std.specs.Prelude.{◌≡◌};
-ghost use Rattle.std.specs.List.{list_any};
+ghost use Rattle.std.specs.{Prelude.{◌≡◌}, List.{list_any}};
 ghost use Rattle.token_rules.specs.Conflict.{lines_match, matched, conflicts};
 
 use crate::assignment::one_assignment;

@@ -1,8 +1,7 @@
 // Which calls can conflict: by the tokens of the takes lines of their operations, and by one argument of each where every rule
 // that matches these tokens wants one element for both.
 
-ghost use Rattle.std.specs.Prelude.{◌≡◌, map, get_or, IfOk};
-ghost use Rattle.std.specs.List.{list_any, list_all};
+ghost use Rattle.std.specs.{Prelude.{◌≡◌, map, get_or, IfOk}, List.{list_any, list_all}};
 ghost use Rattle.token_rules.specs.declared.rivals.Rivalry.TheVariants.{Free};
 ghost use Rattle.token_rules.specs.Rivals.{tokens_match, some_rule_may, are_rivals, starts_with};
 ghost use Rattle.token_rules.specs.Rivals.{same_first, tied_by, all_tied, are_tied, key_in, key_of};

@@ -1,9 +1,7 @@
 // The invariants of a state to which a call has led from one in which they held.
 
 ghost use Rattle.std.specs.Prelude.{◌≡◌, true, None};
-ghost use Rattle.spec_core.specs.State.{Reads};
-ghost use Rattle.spec_core.specs.Meaning.{broken_at};
-ghost use Rattle.spec_core.specs.Fits.{world_fits};
+ghost use Rattle.spec_core.specs.{State.{Reads}, Meaning.{broken_at}, Fits.{world_fits}};
 ghost use Rattle.effectors.specs.Effect.{after};
 
 use crate::reached::line_holds_after;

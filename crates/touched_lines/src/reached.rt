@@ -1,10 +1,7 @@
 // The truth of a line's body where it reads what updates reach, reading by reading.
 
-ghost use Rattle.std.specs.Prelude.{◌≡◌, ◌≤◌, true, [], length};
-ghost use Rattle.std.specs.List.{list_all};
-ghost use Rattle.spec_core.specs.Limits.{most_variables};
-ghost use Rattle.spec_core.specs.Form.{form_of};
-ghost use Rattle.spec_core.specs.State.{Reads};
+ghost use Rattle.std.specs.{Prelude.{◌≡◌, ◌≤◌, true, [], length}, List.{list_all}};
+ghost use Rattle.spec_core.specs.{Limits.{most_variables}, Form.{form_of}, State.{Reads}};
 ghost use Rattle.spec_core.specs.Truth.{truth, line_true};
 ghost use Rattle.spec_core.specs.Fits.{world_fits, form_fits, line_fits};
 ghost use Rattle.effectors.specs.Effect.{after};

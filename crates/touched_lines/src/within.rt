@@ -4,9 +4,7 @@
 // those that are chosen force the body to be true already.
 
 ghost use Rattle.std.specs.Prelude.{◌≡◌, ℕ, ◌≤◌, true, List, [], ◌∷◌, ◌++◌, length};
-ghost use Rattle.spec_core.specs.Form.{form_of};
-ghost use Rattle.spec_core.specs.Truth.{truth};
-ghost use Rattle.spec_core.specs.Fits.{world_fits, form_fits};
+ghost use Rattle.spec_core.specs.{Form.{form_of}, Truth.{truth}, Fits.{world_fits, form_fits}};
 ghost use Rattle.touched_lines.specs.Spans.{all_within};
 
 use crate::spans::Span;

@@ -1,13 +1,10 @@
 // The laws of faults.
 
 ghost use Rattle.std.specs.Prelude.{◌≡◌, ◌<◌, ◌↔◌, ℕ, List, length, Result};
-ghost use Rattle.word_cut.specs.declared.word.Word.{Word};
-ghost use Rattle.word_cut.specs.Words.{IsCut};
+ghost use Rattle.word_cut.specs.{declared.word.Word.{Word}, Words.{IsCut}};
 ghost use Rattle.spec_core.specs.Specification.{Specification};
-ghost use Rattle.spec_trees.specs.Form.{TreeForm};
-ghost use Rattle.spec_trees.specs.Place.{IsRead};
-ghost use Rattle.typing_rules.specs.Fault.{Fault};
-ghost use Rattle.typing_rules.specs.Items.{typing};
+ghost use Rattle.spec_trees.specs.{Form.{TreeForm}, Place.{IsRead}};
+ghost use Rattle.typing_rules.specs.{Fault.{Fault}, Items.{typing}};
 ghost use Rattle.typing_rules.specs.FaultRules.{IsWritten, IsTypingOf};
 
 /// Of a tree that stands in a text, `typing` answers what the tree declares, where it has no fault, and else the least of its faults;

@@ -1,10 +1,8 @@
 // The law of typing.
 
 ghost use Rattle.std.specs.Prelude.{◌≡◌, true, Ok};
-ghost use Rattle.spec_core.specs.Specification.{Specification};
-ghost use Rattle.spec_core.specs.Typed.{is_specification};
-ghost use Rattle.spec_trees.specs.Form.{TreeForm};
-ghost use Rattle.spec_trees.specs.Trees.{IsTree};
+ghost use Rattle.spec_core.specs.{Specification.{Specification}, Typed.{is_specification}};
+ghost use Rattle.spec_trees.specs.{Form.{TreeForm}, Trees.{IsTree}};
 ghost use Rattle.typing_rules.specs.Items.{typing};
 
 /// What a tree of the grammar without faults declares is a well-formed specification.

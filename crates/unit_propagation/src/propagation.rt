@@ -1,8 +1,7 @@
 // Propagation: what stands in the way of a decision, by the watched literals.
 ghost use Rattle.std.specs.Prelude.{◌≡◌, ◌<◌, ◌^◌, ◌∷◌, [], ℕ, List, length, IfOk, OnOk, None};
 ghost use Rattle.proof_lines.specs.declared.clause.Lit.{Lit as PlainLit};
-ghost use Rattle.sat_core.specs.declared.trail.Entry.{Entry as PlainEntry};
-ghost use Rattle.sat_core.specs.Trails.{IsTrail};
+ghost use Rattle.sat_core.specs.{declared.trail.Entry.{Entry as PlainEntry}, Trails.{IsTrail}};
 ghost use Rattle.sat_core.specs.Searching.{IsFound};
 ghost use Rattle.unit_propagation.specs.Watches.{code, AreKept, AreWatched, IsResumed};
 ghost use Rattle.unit_propagation.specs.Ready.{IsReady, StayWatched, MayPush};

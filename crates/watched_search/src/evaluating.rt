@@ -3,9 +3,8 @@ ghost use Rattle.std.specs.Prelude.{◌≡◌, ℕ, ◌<◌, Bool, true, false, 
 ghost use Rattle.std.specs.List.{list_all};
 ghost use Rattle.lin_rows.specs.Rows.{point_of};
 ghost use Rattle.proof_lines.specs.declared.problem.AtomKind.TheVariants.{Plain};
-ghost use Rattle.proof_lines.specs.Clauses.{lit_true, clause_true, all_true};
+ghost use Rattle.proof_lines.specs.{Clauses.{lit_true, clause_true, all_true}, Problems.{row_true}};
 ghost use Rattle.line_rows.specs.Evidence.{in_state};
-ghost use Rattle.proof_lines.specs.Problems.{row_true};
 ghost use Rattle.sat_core.specs.Answers.{IsModelOf};
 ghost use Rattle.watched_search.specs.Reduced.{truth_in, HasTruth, HaveTruths};
 

@@ -1,8 +1,7 @@
 // What a search proposes that promises nothing, tested: a log by the proof kernel, values by evaluation.
 ghost use Rattle.std.specs.Prelude.{◌≡◌, ℕ, Bool, not, length, IsTrue, IfOk, IfSome};
 ghost use Rattle.std.specs.List.{list_all};
-ghost use Rattle.sat_core.specs.SearchLogs.{is_split};
-ghost use Rattle.sat_core.specs.Answers.{IsAnswer, IsRefuted};
+ghost use Rattle.sat_core.specs.{SearchLogs.{is_split}, Answers.{IsAnswer, IsRefuted}};
 
 use crate::evaluating::evaluated;
 use clause_learning::{Proposal, propose};

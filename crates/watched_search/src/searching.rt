@@ -1,8 +1,7 @@
 // The solvers of rows, and which of them a problem needs.
 ghost use Rattle.std.specs.Prelude.{◌≡◌, true, false};
-ghost use Rattle.sat_core.specs.Forcing.{is_plain, are_plain};
+ghost use Rattle.sat_core.specs.{Forcing.{is_plain, are_plain}, Answers.{IsAnswer}};
 ghost use Rattle.diff_bounds.specs.Differences.{problem_fits};
-ghost use Rattle.sat_core.specs.Answers.{IsAnswer};
 
 use crate::solving::solve;
 use diff_bounds::{DiffBounds, fits, law_fits};

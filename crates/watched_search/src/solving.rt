@@ -2,18 +2,16 @@
 ghost use Rattle.std.specs.Prelude.{◌≡◌, ◌<◌, ◌≤◌, ◌^◌, ◌⊎◌, ℕ, Bool, List, true, false, length, IfOk, IfSome, OnOk};
 ghost use Rattle.std.specs.List.{list_any};
 ghost use Rattle.lin_rows.specs.Rows.{Row as PlainRow};
-ghost use Rattle.proof_lines.specs.declared.clause.Lit.{Lit as PlainLit};
-ghost use Rattle.proof_lines.specs.Clauses.{is_empty};
+ghost use Rattle.proof_lines.specs.{declared.clause.Lit.{Lit as PlainLit}, Clauses.{is_empty}};
 ghost use Rattle.sat_core.specs.Trails.{is_assigned, Settled};
 ghost use Rattle.sat_core.specs.declared.checking.Outcome.TheVariants.{Memory};
 ghost use Rattle.sat_core.specs.Answers.{AreRowsOf, IsAnswer, ShowsNone};
-ghost use Rattle.theory_api.specs.Laws.{all_below};
 ghost use Rattle.sat_core.specs.Searching.{Aim, with_trail, InSearch, InChain, IsRefutation};
 ghost use Rattle.sat_core.specs.Outcomes.{IsOutcome, IsPushed, IfContinue};
+ghost use Rattle.theory_api.specs.Laws.{all_below};
 ghost use Rattle.unit_propagation.specs.Watches.{AllKept, AreAtRest, IsResumed};
 ghost use Rattle.unit_propagation.specs.Ready.{IsReady, MayPush, MayContinue};
-ghost use Rattle.watched_search.specs.Conflicts.{IsMet};
-ghost use Rattle.watched_search.specs.Early.{IsClash};
+ghost use Rattle.watched_search.specs.{Conflicts.{IsMet}, Early.{IsClash}};
 ghost use Rattle.watched_search.specs.Exhausted.{is_exhausted};
 
 use crate::early::{Clash, Said, ask_rows};

@@ -1,11 +1,10 @@
 // What follows from the definition of words.
 
-ghost use Rattle.std.specs.Prelude.{◌≡◌, ◌≢◌, ℕ, List};
-ghost use Rattle.std.specs.List.{AllByRecursion};
+ghost use Rattle.std.specs.{Prelude.{◌≡◌, ◌≢◌, ℕ, List}, List.{AllByRecursion}};
 ghost use Rattle.word_cut.specs.declared.word.Word.{Word};
 ghost use Rattle.word_cut.specs.declared.cutting.CutRefused.{CutRefused};
-ghost use Rattle.word_cut.specs.declared.cutting.CutRefused.TheVariants as refusals;
 ghost use Rattle.word_cut.specs.Words.{IsCut, IsRefused, Stands};
+ghost use Rattle.word_cut.specs.declared.cutting.CutRefused.TheVariants as refusals;
 
 /// Bytes have one list of words.
 pub fn law_one_cut()

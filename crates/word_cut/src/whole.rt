@@ -1,9 +1,7 @@
 // Reading whole numbers.
 
 ghost use Rattle.std.specs.Prelude.{◌≡◌, ◌≤◌, ◌+◌, ◌*◌, ◌↔◌, ℤ, pos, neg_ℤ, Some, true};
-ghost use Rattle.std.specs.Prelude.{unsigned_abs, SomeIff};
-ghost use Rattle.std.specs.Fmt.{signed_decimal};
-ghost use Rattle.std.specs.List.{list_all};
+ghost use Rattle.std.specs.{Prelude.{unsigned_abs, SomeIff}, Fmt.{signed_decimal}, List.{list_all}};
 ghost use Rattle.word_cut.specs.Texts.{is_digit as digit_test, is_number as number_test};
 ghost use Rattle.word_cut.specs.Whole.{number_of as number_for, greatest, size_read, read_of};
 

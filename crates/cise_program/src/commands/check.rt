@@ -1,10 +1,8 @@
 // The command `check`: the report of a specification's obligations.
 ghost use Rattle.std.specs.Prelude.{◌≡◌, ◌≢◌, true};
-ghost use Rattle.byte_ports.specs.Ports.{port_of};
-ghost use Rattle.byte_ports.specs.Ending.{Ends};
+ghost use Rattle.byte_ports.specs.{Ports.{port_of}, Ending.{Ends}};
 ghost use Rattle.report_lines.specs.Heads.{most_budget};
-ghost use Rattle.cise_program.specs.Words.{is_within};
-ghost use Rattle.cise_program.specs.commands.Check.{IsReport, IsReportFront};
+ghost use Rattle.cise_program.specs.{Words.{is_within}, commands.Check.{IsReport, IsReportFront}};
 
 use crate::outcome::status_of;
 use byte_ports::{MEMORY, Sink, WRITE_FAULT};

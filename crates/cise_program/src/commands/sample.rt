@@ -1,9 +1,7 @@
 // The command `sample`: the verdicts on a generated specification, counted.
 ghost use Rattle.std.specs.Prelude.{◌≡◌, ◌≢◌, ◌++◌, [], ◌∷◌, true, IfOk, codes, decimal};
-ghost use Rattle.byte_ports.specs.Ports.{port_of};
-ghost use Rattle.byte_ports.specs.Ending.{Ends};
-ghost use Rattle.proof_report.specs.Verdicts.{obligation_count};
-ghost use Rattle.proof_report.specs.Texts.{end_text};
+ghost use Rattle.byte_ports.specs.{Ports.{port_of}, Ending.{Ends}};
+ghost use Rattle.proof_report.specs.{Verdicts.{obligation_count}, Texts.{end_text}};
 ghost use Rattle.spec_from_bytes.specs.Lines.{line};
 ghost use Rattle.check_run.specs.Reports.{IsDecided};
 ghost use Rattle.cise_program.specs.Words.{default_budget, most_sample, is_within};

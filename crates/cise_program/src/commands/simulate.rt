@@ -1,8 +1,6 @@
 // The command `simulate`: the text of a run of the token protocol over a schedule.
 ghost use Rattle.std.specs.Prelude.{◌≡◌, ◌≤◌, ◌<◌, length, IfOk};
-ghost use Rattle.byte_ports.specs.Faults.{IsFault};
-ghost use Rattle.byte_ports.specs.Ports.{port_of};
-ghost use Rattle.byte_ports.specs.Told.{IsReadWithin};
+ghost use Rattle.byte_ports.specs.{Faults.{IsFault}, Ports.{port_of}, Told.{IsReadWithin}};
 ghost use Rattle.schedule_json.specs.Texts.{most_schedule_bytes};
 ghost use Rattle.cise_program.specs.Answer.{EndsWith};
 ghost use Rattle.cise_program.specs.commands.Simulate.{IsSimulated, IsSimulationFront};

@@ -1,7 +1,6 @@
 // The command `spell`: a specification's words in the layout of the language.
 ghost use Rattle.std.specs.Prelude.{◌≢◌};
-ghost use Rattle.byte_ports.specs.Ports.{port_of};
-ghost use Rattle.byte_ports.specs.Ending.{Ends};
+ghost use Rattle.byte_ports.specs.{Ports.{port_of}, Ending.{Ends}};
 ghost use Rattle.spec_trees.specs.Form.{tree_of};
 ghost use Rattle.cise_program.specs.commands.Spell.{IsSpelled, IsSpellFront};
 

@@ -1,7 +1,6 @@
 // The command `suggest`: the least set of pairs of operations that have to conflict.
 ghost use Rattle.std.specs.Prelude.{◌≡◌, ◌≢◌};
-ghost use Rattle.byte_ports.specs.Ports.{port_of};
-ghost use Rattle.byte_ports.specs.Ending.{Ends};
+ghost use Rattle.byte_ports.specs.{Ports.{port_of}, Ending.{Ends}};
 ghost use Rattle.cise_program.specs.commands.Suggest.{IsSuggested, IsSuggestionFront};
 ghost use Rattle.cise_program.specs.commands.Suggest.{status_by as status_by_of};
 

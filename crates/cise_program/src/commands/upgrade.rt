@@ -1,12 +1,9 @@
 // The command `upgrade`: a report that stands, in version 2 of the format.
 ghost use Rattle.std.specs.Prelude.{◌≡◌, ◌≢◌, ◌<◌, List, ℕ, Some, Err};
-ghost use Rattle.byte_ports.specs.Faults.{IsFault};
-ghost use Rattle.byte_ports.specs.Ports.{port_of};
-ghost use Rattle.byte_ports.specs.Ending.{IsOne, IsFrontOf, Ends};
-ghost use Rattle.byte_ports.specs.Told.{IsReadWithin};
+ghost use Rattle.byte_ports.specs.{Faults.{IsFault}, Ports.{port_of}};
+ghost use Rattle.byte_ports.specs.{Ending.{IsOne, IsFrontOf, Ends}, Told.{IsReadWithin}};
 ghost use Rattle.report_verifier.specs.Verified.{most_report_bytes};
-ghost use Rattle.cise_program.specs.Answer.{EndsWith};
-ghost use Rattle.cise_program.specs.commands.Verify.{text_said};
+ghost use Rattle.cise_program.specs.{Answer.{EndsWith}, commands.Verify.{text_said}};
 ghost use Rattle.cise_program.specs.commands.Upgrade.{IsUpgraded, IsUpgradeFront};
 
 use crate::commands::verify::text_said;

@@ -1,8 +1,6 @@
 // The command `verify`: whether a report on a specification stands.
 ghost use Rattle.std.specs.Prelude.{◌≡◌, ◌<◌, ◌∷◌, [], Some, Err, IfOk, IsErrOf, codes, decimal};
-ghost use Rattle.byte_ports.specs.Faults.{IsFault};
-ghost use Rattle.byte_ports.specs.Ports.{port_of};
-ghost use Rattle.byte_ports.specs.Told.{IsReadWithin};
+ghost use Rattle.byte_ports.specs.{Faults.{IsFault}, Ports.{port_of}, Told.{IsReadWithin}};
 ghost use Rattle.report_verifier.specs.Verified.{most_report_bytes};
 ghost use Rattle.report_verifier.specs.declared.refused.VerifyRefused.TheVariants as refused;
 ghost use Rattle.cise_program.specs.Answer.{EndsWith};

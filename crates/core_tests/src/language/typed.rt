@@ -2,8 +2,7 @@
 //
 // Each of the trees that are refused has two faults. Words count from 0, and the second fault stands at a later one.
 
-ghost use Rattle.spec_trees.specs.Form.{tree_of};
-ghost use Rattle.spec_trees.specs.Trees.{IsTree};
+ghost use Rattle.spec_trees.specs.{Form.{tree_of}, Trees.{IsTree}};
 
 use spec_core::{Name, Spec};
 use spec_from_bytes::Reading;

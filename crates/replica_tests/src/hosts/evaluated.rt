@@ -1,10 +1,7 @@
 // An effect and a guard that evaluate a specification, as an application's own code.
 
-ghost use Rattle.std.specs.Prelude.{◌≡◌, ◌+◌, true, Option};
-ghost use Rattle.std.specs.Option.{option_map};
-ghost use Rattle.spec_core.specs.Specification.{op_of};
-ghost use Rattle.spec_core.specs.State.{reads};
-ghost use Rattle.spec_core.specs.Meaning.{first_false};
+ghost use Rattle.std.specs.{Prelude.{◌≡◌, ◌+◌, true, Option}, Option.{option_map}};
+ghost use Rattle.spec_core.specs.{Specification.{op_of}, State.{reads}, Meaning.{first_false}};
 ghost use Rattle.spec_core.specs.Fits.{world_fits, call_fits, is_state};
 ghost use Rattle.replica_host.specs.Native.{IsEffect, IsGuard};
 

@@ -1,7 +1,6 @@
 // Rows from plain numbers, and what a solver says of them.
 ghost use Rattle.std.specs.Prelude.{◌≡◌, true};
-ghost use Rattle.lin_rows.specs.Numbers.{in_range};
-ghost use Rattle.lin_rows.specs.Rows.{all_in_range};
+ghost use Rattle.lin_rows.specs.{Numbers.{in_range}, Rows.{all_in_range}};
 ghost use Rattle.theory_api.specs.Laws.{all_below};
 
 use lin_rows::{Row, RowTerm, row_of};

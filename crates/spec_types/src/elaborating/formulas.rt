@@ -22,8 +22,7 @@ ghost use Rattle.typing_rules.specs.Formulas.{quantified as quantified_of};
 ghost use Rattle.typing_rules.specs.Formulas.{prefix_of as prefix_of_tree};
 ghost use Rattle.typing_rules.specs.Formulas.{sentence_of as line_of_sentence};
 ghost use Rattle.typing_rules.specs.Lines.{guard_formula};
-ghost use Rattle.spec_types.specs.faults.Names.{meaning_in};
-ghost use Rattle.spec_types.specs.faults.Views.{scope_of};
+ghost use Rattle.spec_types.specs.{faults.Names.{meaning_in}, faults.Views.{scope_of}};
 
 use crate::faults::{
     Names, Scope, elem_of, number_named, side_element, sort_number, vars_of, with_vars,

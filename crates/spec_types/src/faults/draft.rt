@@ -23,8 +23,7 @@ pub struct Draft {
 
 impl Model for Draft {
     ghost use Rattle.std.specs.Coded.{codes};
-    ghost use Rattle.spec_core.specs.Code.{coded_form};
-    ghost use Rattle.spec_core.specs.Specification.{Specification};
+    ghost use Rattle.spec_core.specs.{Code.{coded_form}, Specification.{Specification}};
 
     ghost Value = { Specification };
 

@@ -1,7 +1,6 @@
 // Which elements names stand for, and what is wrong with those that stand for none.
 
-ghost use Rattle.std.specs.Prelude.{◌≡◌, ◌==◌, length, position};
-ghost use Rattle.std.specs.Str.{bytes_eq};
+ghost use Rattle.std.specs.{Prelude.{◌≡◌, ◌==◌, length, position}, Str.{bytes_eq}};
 ghost use Rattle.spec_core.specs.Typed.{sort_of as sort_of_elem, sort_of_kind, is_sort};
 ghost use Rattle.typing_rules.specs.Scope.{kind_of, params_of, var_sorts};
 ghost use Rattle.typing_rules.specs.Terms.{small as small_of, elem_named as elem_named_of};
@@ -10,8 +9,7 @@ ghost use Rattle.typing_rules.specs.Terms.{elem_fault as elem_fault_of};
 ghost use Rattle.typing_rules.specs.Terms.{elems_fault as elems_fault_of};
 ghost use Rattle.typing_rules.specs.Terms.{places_fault as places_fault_of};
 ghost use Rattle.typing_rules.specs.Terms.{args_fault as args_fault_of};
-ghost use Rattle.spec_types.specs.faults.Names.{meaning_in};
-ghost use Rattle.spec_types.specs.faults.Views.{faulted, scope_of};
+ghost use Rattle.spec_types.specs.{faults.Names.{meaning_in}, faults.Views.{faulted, scope_of}};
 
 use crate::faults::fault::Fault;
 use crate::faults::scope::{Scope, sort_number, stranger_fault};

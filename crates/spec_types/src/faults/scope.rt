@@ -7,8 +7,7 @@ ghost use Rattle.typing_rules.specs.Scope.{stranger_fault as stranger_fault_of};
 ghost use Rattle.typing_rules.specs.Scope.{declared_fault as declared_fault_of};
 ghost use Rattle.typing_rules.specs.Scope.{sort_fault as sort_fault_of};
 ghost use Rattle.typing_rules.specs.Scope.{sort_number as sort_number_of};
-ghost use Rattle.spec_types.specs.faults.Names.{meaning_in};
-ghost use Rattle.spec_types.specs.faults.Views.{faulted, scope_of};
+ghost use Rattle.spec_types.specs.{faults.Names.{meaning_in}, faults.Views.{faulted, scope_of}};
 
 use crate::faults::draft::Draft;
 use crate::faults::fault::Fault;

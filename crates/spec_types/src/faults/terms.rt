@@ -1,7 +1,6 @@
 // What is wrong with terms.
 
-ghost use Rattle.std.specs.Prelude.{◌≡◌, ◌<◌, ◌-◌, ◌^◌, ◌&&◌, position};
-ghost use Rattle.std.specs.Str.{bytes_eq};
+ghost use Rattle.std.specs.{Prelude.{◌≡◌, ◌<◌, ◌-◌, ◌^◌, ◌&&◌, position}, Str.{bytes_eq}};
 ghost use Rattle.spec_core.specs.Specification.{counter_keys as keys_of};
 ghost use Rattle.typing_rules.specs.Fault.{first_fault};
 ghost use Rattle.typing_rules.specs.Terms.{literal_fault as literal_fault_of};
