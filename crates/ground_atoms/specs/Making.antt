@@ -1,5 +1,5 @@
 -- Formulas that are numbered as they are made: as in the steps of a numbering, with the readings that are named on the way.
-use Rattle.std.specs.Prelude.{ℤ, pos, int_le, Bool, true, false, List, [], ◌∷◌, ◌++◌}
+use Rattle.std.specs.Prelude.{ℕ, ℤ, pos, int_le, Bool, true, false, List, [], ◌∷◌, ◌++◌}
 use Rattle.lin_rows.specs.declared.term.RowTerm.{RowTerm}
 use Rattle.lin_rows.specs.Rows.{Row}
 use Rattle.ground_problem.specs.Symbols.{Part, number, multiple, Symbolic, always, same, has, at_most, negated, both, either}
@@ -42,6 +42,17 @@ make_row k (t ∷ ts) r = make_atom k (row_atom r)
 abbrev pub make_sum : KnownTerms → ℤ → Made
 make_sum a bound =
     make_row a.known (added_up a.terms) (record { terms = added_up a.terms; bound = bound })
+
+-- one numbered whole number less another one
+abbrev pub difference : ℕ → ℕ → List RowTerm
+difference m n =
+    record { place = m; coef = signed true (pos 1) }
+    ∷ record { place = n; coef = signed false (pos 1) }
+    ∷ []
+
+-- that one numbered whole number is at most another one
+abbrev pub make_at_most_name : Known → ℕ → ℕ → Made
+make_at_most_name k m n = make_sum (record { known = k; terms = difference m n }) (pos 0)
 
 -- the row of a first sum, whose terms are made, and a second one, which is made now
 abbrev pub make_at_most : KnownTerms → List Part → ℤ → Made

@@ -98,14 +98,13 @@ impl Atoms {
         ensures number { IfOk result (λ n. n ≡ numbers.number_of self.old.table (atom_of atom)) }
         ensures stay { NumbersStay self.old self.new }
     {
-        let Ok((index, is_new)) = self.atoms.insert_full(atom) else {
+        if let Some(index) = self.atoms.get_index_of(&atom) {
+            return as_number(index);
+        }
+        note_atom(self.alloc, &atom, &mut self.named)?;
+        let Ok((index, _)) = self.atoms.insert_full(atom) else {
             return Err(AllocError);
         };
-        if is_new {
-            if let Some(atom) = self.atoms.get_index(index) {
-                note_atom(self.alloc, atom, &mut self.named)?;
-            }
-        }
         as_number(index)
     }
 

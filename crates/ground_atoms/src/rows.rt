@@ -3,7 +3,7 @@ ghost use Rattle.std.specs.Prelude.{◌≡◌, true, ◌+ℤ◌, ◌-ℤ◌, IfO
 ghost use Rattle.lin_rows.specs.{Numbers.{in_range}, Rows.{all_in_range}};
 ghost use Rattle.ground_problem.specs.Symbols.{at_most};
 ghost use Rattle.ground_numbers.specs.Numbers.{plain_of, bound_of, added_up, signed};
-ghost use Rattle.ground_atoms.specs.{Symbols.{parts_of}, Making.{make, make_row, make_terms}};
+ghost use Rattle.ground_atoms.specs.{Symbols.{parts_of}, Making.{make, make_row, make_terms, make_at_most_name}};
 ghost use Rattle.ground_atoms.specs.{Formulas.{form_of}, Staying.{NumbersStay}};
 
 use crate::atom::Atom;
@@ -43,7 +43,13 @@ pub fn at_most_name(
     alloc: Global,
     first: u32,
     second: u32,
-) -> Result<GroundFormula, AllocError> {
+) -> Result<GroundFormula, AllocError>
+    ensures made { IfOk result (λ f. make_at_most_name atoms.old first second ≡ record {
+      known = atoms.new;
+      form = form_of f;
+    }) }
+    ensures stay { NumbersStay atoms.old atoms.new }
+{
     let terms = [term_of(true, first, 1), term_of(false, second, 1)];
     let row = summed(alloc, &terms, 0)?;
     row_formula(atoms, row)

@@ -1,4 +1,5 @@
 pub mod Triples
+pub mod Equalities
 pub mod Tuples
 pub mod Twice
 pub mod Pairs

@@ -1,3 +1,4 @@
+pub mod Equalities
 pub mod Pairs
 pub mod Congruent
 pub mod Ground

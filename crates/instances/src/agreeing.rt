@@ -15,13 +15,12 @@ use ground_atoms::NamedReading;
 use ground_groups::adding::{MOST_FORMULAS, has_room};
 use ground_groups::{GroundRefused, Grounding};
 use items::Items;
-use spec_core::{Spec, Thing};
+use spec_core::Thing;
 use std::alloc::{AllocError, Global};
 
 // Appends this for a tuple and each of these.
 fn add_with_each(
     grounding: &mut Grounding,
-    spec: &Spec,
     thing: Thing,
     tuple: &Items<u32>,
     later: &[Items<u32>],
@@ -32,14 +31,7 @@ fn add_with_each(
     for other in later {
         has_room(grounding)?;
         let (left, right) = (tuple.as_slice(), other.as_slice());
-        let made = congruent(
-            &mut grounding.atoms,
-            grounding.alloc,
-            spec,
-            thing,
-            left,
-            right,
-        )?;
+        let made = congruent(&mut grounding.atoms, grounding.alloc, thing, left, right)?;
         grounding.formulas.push(made)?;
     }
     Ok(())
@@ -48,7 +40,6 @@ fn add_with_each(
 // The same for a tuple and each after a place.
 fn add_from(
     grounding: &mut Grounding,
-    spec: &Spec,
     thing: Thing,
     tuple: &Items<u32>,
     tuples: &[Items<u32>],
@@ -59,13 +50,12 @@ fn add_from(
         (map (equality.congruent thing tuple.now) (drop (place + 1) tuples.now)) grounding.new }
 {
     let next = place + 1;
-    add_with_each(grounding, spec, thing, tuple, &tuples[next..])
+    add_with_each(grounding, thing, tuple, &tuples[next..])
 }
 
 // The same for every two of these tuples.
 fn add_pairs(
     grounding: &mut Grounding,
-    spec: &Spec,
     thing: Thing,
     tuples: &[Items<u32>],
 ) -> Result<(), GroundRefused>
@@ -73,7 +63,7 @@ fn add_pairs(
         (equality.congruent_pairs thing tuples.now) grounding.new }
 {
     for place in 0..tuples.len() {
-        match add_from(grounding, spec, thing, &tuples[place], tuples, place) {
+        match add_from(grounding, thing, &tuples[place], tuples, place) {
             Ok(()) => {}
             Err(refused) => return Err(refused),
         }
@@ -184,7 +174,6 @@ fn has_room_for_pairs(grounding: &Grounding, tuples: &[Items<u32>]) -> Result<()
 // The same for every two of these tuples, or that there is no room for so many.
 fn add_pairs_within(
     grounding: &mut Grounding,
-    spec: &Spec,
     thing: Thing,
     tuples: &[Items<u32>],
 ) -> Result<(), GroundRefused>
@@ -194,13 +183,12 @@ fn add_pairs_within(
     if let Err(refused) = has_room_for_pairs(grounding, tuples) {
         return Err(refused);
     }
-    add_pairs(grounding, spec, thing, tuples)
+    add_pairs(grounding, thing, tuples)
 }
 
 // Appends that a thing reads the same at equal tuples among these readings.
 fn add_thing(
     grounding: &mut Grounding,
-    spec: &Spec,
     readings: &[NamedReading],
     thing: &Thing,
 ) -> Result<(), GroundRefused>
@@ -210,13 +198,12 @@ fn add_thing(
         grounding.new }
 {
     let tuples = rising(grounding.alloc, readings, *thing)?;
-    add_pairs_within(grounding, spec, *thing, tuples.as_slice())
+    add_pairs_within(grounding, *thing, tuples.as_slice())
 }
 
 /// Appends that each of these things reads the same at equal tuples among these readings.
 pub fn add_congruence(
     grounding: &mut Grounding,
-    spec: &Spec,
     readings: &[NamedReading],
     things: &[Thing],
 ) -> Result<(), GroundRefused>
@@ -224,7 +211,7 @@ pub fn add_congruence(
         (equality.congruence (map reading_of readings.now) things.now) grounding.new }
 {
     for thing in things {
-        match add_thing(grounding, spec, readings, thing) {
+        match add_thing(grounding, readings, thing) {
             Ok(()) => {}
             Err(refused) => return Err(refused),
         }

@@ -8,7 +8,7 @@ ghost use Rattle.ground_problem.specs.Symbols as symbols;
 ghost use Rattle.ground_problem.specs.Equality as equality;
 ghost use Rattle.ground_numbers.specs.Numbered.{known, literal, negation, conjunction, disjunction};
 ghost use Rattle.ground_numbers.specs.Numbers.{has_atom, number_of};
-ghost use Rattle.ground_atoms.specs.{Known.{know_atom}, Making.{make}};
+ghost use Rattle.ground_atoms.specs.{Known.{know_atom}, Making.{make}, Symbols.{integer_of}};
 ghost use Rattle.ground_atoms.specs.Formulas.{form_of, readings_agree};
 ghost use Rattle.ground_atoms.specs.declared.formula.Agreement.TheVariants as agreements;
 ghost use Rattle.stage_defs.specs.Settings.{IsMade};
@@ -16,7 +16,7 @@ ghost use Rattle.instances.specs.Congruent.{premise_of, conclusion_of};
 
 use ground_atoms::{Agreement, Atom, Atoms, GroundFormula, IntName, Places, Tuple, at_most_name};
 use ground_groups::parts::{all_of, join_lengths, join_same};
-use spec_core::{Spec, Thing};
+use spec_core::Thing;
 use stage_defs::{both, either, negated, same_const};
 use std::alloc::{AllocError, Global};
 
@@ -199,7 +199,9 @@ fn both_rows(
 }
 
 // The name of a counter's reading at the entry.
-fn count_at(alloc: Global, counter: u8, key: &[u32]) -> Result<IntName, AllocError> {
+fn count_at(alloc: Global, counter: u8, key: &[u32]) -> Result<IntName, AllocError>
+    ensures { IfOk result (λ x. integer_of x ≡ symbols.reading [] counter key.now) }
+{
     Ok(IntName::Count {
         stage: 0,
         part: 0,
@@ -208,11 +210,11 @@ fn count_at(alloc: Global, counter: u8, key: &[u32]) -> Result<IntName, AllocErr
     })
 }
 
-// A counter is the same at both tuples.
+#[tactic(auto, using(crate::proofs::Twice::count_twice))]
+// A counter is the same at both tuples. Each reading is looked up once, and stands in both rows.
 fn counter_same(
     atoms: &mut Atoms,
     alloc: Global,
-    spec: &Spec,
     counter: u8,
     left: &[u32],
     right: &[u32],
@@ -221,7 +223,6 @@ fn counter_same(
         (λ c. make atoms.old (equality.readings_same (thing.Counter counter) left.now right.now)
         ≡ record { known = atoms.new; form = conclusion_of c }) }
 {
-    let _spec = spec;
     let first = atoms.int_of(count_at(alloc, counter, left)?)?;
     let second = atoms.int_of(count_at(alloc, counter, right)?)?;
     let up = at_most_name(atoms, alloc, first, second)?;
@@ -233,7 +234,6 @@ fn counter_same(
 fn readings_same(
     atoms: &mut Atoms,
     alloc: Global,
-    spec: &Spec,
     thing: Thing,
     left: &[u32],
     right: &[u32],
@@ -243,7 +243,7 @@ fn readings_same(
 {
     match thing {
         Thing::Relation(relation) => relation_same(atoms, alloc, relation, left, right),
-        Thing::Counter(counter) => counter_same(atoms, alloc, spec, counter, left, right),
+        Thing::Counter(counter) => counter_same(atoms, alloc, counter, left, right),
     }
 }
 
@@ -345,7 +345,6 @@ fn concluded(
 pub fn congruent(
     atoms: &mut Atoms,
     alloc: Global,
-    spec: &Spec,
     thing: Thing,
     left: &[u32],
     right: &[u32],
@@ -354,6 +353,6 @@ pub fn congruent(
         (equality.congruent thing left.now right.now) atoms.new f) }
 {
     let premise = tuples_same(atoms, alloc, left, right)?;
-    let conclusion = readings_same(atoms, alloc, spec, thing, left, right)?;
+    let conclusion = readings_same(atoms, alloc, thing, left, right)?;
     concluded(alloc, premise, conclusion)
 }

@@ -1,12 +1,13 @@
 // Equality goes over each of three constants of one sort to the other two.
-ghost use Rattle.std.specs.Prelude.{◌≡◌, ◌+◌, ◌≤◌, ◌<◌, true, length, drop, slice_index};
+ghost use Rattle.std.specs.Prelude.{◌≡◌, ◌+◌, ◌≤◌, ◌<◌, ◌∷◌, [], ℕ, true, length, drop, slice_index};
 ghost use Rattle.std.specs.{Prelude.{IfOk}, List.{flat_map}};
 ghost use Rattle.ground_problem.specs.Constants.{of_sort};
 ghost use Rattle.ground_problem.specs.Symbols as symbols;
 ghost use Rattle.ground_problem.specs.Equality as equality;
-ghost use Rattle.ground_numbers.specs.Numbered.{literal};
+ghost use Rattle.ground_numbers.specs.Numbered.{literal, negation, conjunction, disjunction};
 ghost use Rattle.ground_atoms.specs.Making.{make};
 ghost use Rattle.ground_groups.specs.Limited.{Appends};
+ghost use Rattle.instances.specs.Equalities.{AreNumbered};
 
 use ground_atoms::{Atom, Atoms, GroundFormula};
 use ground_groups::adding::has_room;
@@ -24,13 +25,23 @@ fn number_of(atoms: &mut Atoms, pair: (u32, u32)) -> Result<u32, AllocError>
     atoms.number_of(Atom::Same(lesser, greater))
 }
 
-// Appends that where the first two equalities are true, so is the third one.
+// Appends that where the first two equalities are true, so is the third one, by their numbers.
 fn push_implied(
     grounding: &mut Grounding,
     first: u32,
     second: u32,
     third: u32,
-) -> Result<(), GroundRefused> {
+) -> Result<(), GroundRefused>
+    ensures atoms { grounding.new.atoms ≡ grounding.old.atoms }
+    ensures formula { (f : symbols.Symbolic)
+        → make grounding.old.atoms f ≡ record {
+          known = grounding.old.atoms;
+          form = disjunction
+              (negation (conjunction (literal first true) (literal second true)))
+              (literal third true);
+        }
+        → Appends result grounding.old (f ∷ []) grounding.new }
+{
     has_room(grounding)?;
     grounding
         .formulas
@@ -38,17 +49,35 @@ fn push_implied(
     Ok(())
 }
 
-// Appends that equality goes over each of three constants.
+// Appends that equality goes over each of three constants, by the numbers of their equalities.
+fn push_three(
+    grounding: &mut Grounding,
+    front: u32,
+    back: u32,
+    ends: u32,
+) -> Result<(), GroundRefused>
+    ensures { (a b c : ℕ) → AreNumbered grounding.old.atoms a b c front back ends
+        → Appends result grounding.old (equality.three_agree a b c) grounding.new }
+{
+    match push_implied(grounding, front, back, ends) {
+        Ok(()) => {}
+        Err(refused) => return Err(refused),
+    }
+    match push_implied(grounding, front, ends, back) {
+        Ok(()) => {}
+        Err(refused) => return Err(refused),
+    }
+    push_implied(grounding, ends, back, front)
+}
+
+// Appends that equality goes over each of three constants. Each equality is looked up once, and stands in three formulas.
 fn add_three(grounding: &mut Grounding, a: u32, b: u32, c: u32) -> Result<(), GroundRefused>
     ensures { Appends result grounding.old (equality.three_agree a b c) grounding.new }
 {
-    has_room(grounding)?;
-    let first = number_of(&mut grounding.atoms, (a, b))?;
-    let second = number_of(&mut grounding.atoms, (b, c))?;
-    let third = number_of(&mut grounding.atoms, (a, c))?;
-    push_implied(grounding, first, second, third)?;
-    push_implied(grounding, first, third, second)?;
-    push_implied(grounding, third, second, first)
+    let front = number_of(&mut grounding.atoms, (a, b))?;
+    let back = number_of(&mut grounding.atoms, (b, c))?;
+    let ends = number_of(&mut grounding.atoms, (a, c))?;
+    push_three(grounding, front, back, ends)
 }
 
 // The same for two constants and each of these.

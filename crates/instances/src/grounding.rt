@@ -116,7 +116,6 @@ pub fn numbered(
 // Appends that equality goes over constants of one sort, and that these things read the same at equal tuples.
 fn add_equal(
     grounding: &mut Grounding,
-    spec: &Spec,
     sorts: &[u8],
     readings: &[NamedReading],
     things: &[Thing],
@@ -130,7 +129,7 @@ fn add_equal(
         Ok(()) => {}
         Err(refused) => return Err(refused),
     }
-    add_congruence(grounding, spec, readings, things)
+    add_congruence(grounding, readings, things)
 }
 
 // Appends to what is true at the entry all other formulas of an obligation.
@@ -159,7 +158,6 @@ fn add_all(
     let things = things_of(grounding.alloc, spec)?;
     add_equal(
         grounding,
-        spec,
         named.sorts.as_slice(),
         readings.as_slice(),
         things.as_slice(),

@@ -49,7 +49,6 @@ impl WholeGround {
 fn formula_at(
     atoms: &mut Atoms,
     alloc: Global,
-    spec: &Spec,
     pairs: &ReadingPairs,
     earlier: usize,
     later: usize,
@@ -66,7 +65,6 @@ fn formula_at(
     congruent(
         atoms,
         alloc,
-        spec,
         Thing::Relation(pairs.relation),
         tuples[earlier].as_slice(),
         tuples[later].as_slice(),
@@ -77,7 +75,6 @@ fn formula_at(
 fn add_with_later(
     atoms: &mut Atoms,
     alloc: Global,
-    spec: &Spec,
     pairs: &ReadingPairs,
     earlier: usize,
     out: &mut Items<GroundFormula>,
@@ -91,7 +88,7 @@ fn add_with_later(
 {
     let count = pairs.tuples.len();
     for later in earlier + 1..count {
-        let formula = formula_at(atoms, alloc, spec, pairs, earlier, later)?;
+        let formula = formula_at(atoms, alloc, pairs, earlier, later)?;
         out.push(formula)?;
     }
     Ok(())
@@ -101,7 +98,6 @@ fn add_with_later(
 fn add_pairs(
     atoms: &mut Atoms,
     alloc: Global,
-    spec: &Spec,
     pairs: &ReadingPairs,
     out: &mut Items<GroundFormula>,
 ) -> Result<(), AllocError>
@@ -111,7 +107,7 @@ fn add_pairs(
         (map form_of out.new ≡ map form_of out.old ++ pair_forms atoms.old.table pairs.now) }
 {
     for earlier in 0..pairs.tuples.len() {
-        add_with_later(atoms, alloc, spec, pairs, earlier, out)?;
+        add_with_later(atoms, alloc, pairs, earlier, out)?;
     }
     Ok(())
 }
@@ -120,7 +116,6 @@ fn add_pairs(
 fn add_all_pairs(
     atoms: &mut Atoms,
     alloc: Global,
-    spec: &Spec,
     pairs: &[ReadingPairs],
     out: &mut Items<GroundFormula>,
 ) -> Result<(), AllocError>
@@ -130,7 +125,7 @@ fn add_all_pairs(
         ≡ map form_of out.old ++ flat_map (pair_forms atoms.old.table) pairs.now) }
 {
     for some in pairs {
-        add_pairs(atoms, alloc, spec, some, out)?;
+        add_pairs(atoms, alloc, some, out)?;
     }
     Ok(())
 }
@@ -154,7 +149,6 @@ fn joined(
 fn all_formulas(
     atoms: &mut Atoms,
     alloc: Global,
-    spec: &Spec,
     front: Items<GroundFormula>,
     pairs: &[ReadingPairs],
     behind: Items<GroundFormula>,
@@ -165,7 +159,7 @@ fn all_formulas(
         ++ (flat_map (pair_forms atoms.old.table) pairs.now ++ map form_of behind)) }
 {
     let mut formulas = front;
-    let added = add_all_pairs(atoms, alloc, spec, pairs, &mut formulas);
+    let added = add_all_pairs(atoms, alloc, pairs, &mut formulas);
     or_drop!(added; formulas, behind);
     joined(formulas, behind)
 }
@@ -183,7 +177,7 @@ impl LazyGround {
         ensures ground { IfOk result (λ whole. IsGrounded spec.now ob.now whole.ground) }
         ensures kept { HasLazyKept spec.now self → IfOk result (HasWholeKept spec.now) }
     {
-        let _ob = ob;
+        let (_spec, _ob) = (spec, ob);
         let LazyGround {
             mut atoms,
             front,
@@ -195,7 +189,7 @@ impl LazyGround {
             readings,
             part,
         } = self;
-        let made = all_formulas(&mut atoms, alloc, spec, front, pairs.as_slice(), behind);
+        let made = all_formulas(&mut atoms, alloc, front, pairs.as_slice(), behind);
         let formulas = or_drop!(made; part, readings, elements, calls, sorts, pairs, atoms);
         Ok(WholeGround {
             ground: Grounded {

@@ -191,14 +191,14 @@ fn whole(
     ensures ground { IsGroundEither spec.now ob.now result }
     ensures kept { IfOk result (HasKept spec.now) }
 {
-    let _ob = ob;
+    let (_spec, _ob) = (spec, ob);
     let Front {
         named,
         mut grounding,
         readings,
         part,
     } = front;
-    let added = add_congruence(&mut grounding, spec, readings.as_slice(), all);
+    let added = add_congruence(&mut grounding, readings.as_slice(), all);
     drop(readings);
     or_drop!(added; part, named, grounding);
     drop(named.chosen);
@@ -215,7 +215,6 @@ fn whole(
 // The formulas on equal readings of counters, made behind those that these pairs stand for: what these name gets its numbers first.
 fn add_behind(
     behind: &mut Grounding,
-    spec: &Spec,
     readings: &[NamedReading],
     pairs: &[ReadingPairs],
     counters: &[Thing],
@@ -227,7 +226,7 @@ fn add_behind(
         (congruence (map reading_of readings.now) counters.now) behind.new }
 {
     number_all_pairs(&mut behind.atoms, pairs)?;
-    add_congruence(behind, spec, readings, counters)
+    add_congruence(behind, readings, counters)
 }
 
 // The lazy ground problem, of which the front and the pairs are made.
@@ -247,7 +246,7 @@ fn lazily(
     ensures ground { IsGroundEither spec.now ob.now result }
     ensures kept { IfOk result (HasKept spec.now) }
 {
-    let _ob = ob;
+    let (_spec, _ob) = (spec, ob);
     let _relations = relations;
     let Front {
         named,
@@ -257,13 +256,7 @@ fn lazily(
     } = front;
     let front = grounding.formulas;
     let mut behind = Grounding::new(grounding.alloc, grounding.atoms);
-    let added = add_behind(
-        &mut behind,
-        spec,
-        readings.as_slice(),
-        pairs.as_slice(),
-        counters,
-    );
+    let added = add_behind(&mut behind, readings.as_slice(), pairs.as_slice(), counters);
     or_drop!(added; pairs, part, readings, front, named, behind);
     drop(named.chosen);
     Ok(EitherGround::Lazy(LazyGround {
