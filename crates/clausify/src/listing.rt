@@ -1,7 +1,8 @@
 // The clauses of a list of formulas, and the atoms that name their parts.
 ghost use Rattle.std.specs.Prelude.{◌≡◌, ◌+◌, ◌++◌, true, IfOk, OnOk, map};
 ghost use Rattle.ground_numbers.specs.Numbered.{disjunction};
-ghost use Rattle.ground_numbers.specs.Clauses.{unsettled, folded, fold_any, clauses_of, names_of, all_clauses, all_names};
+ghost use Rattle.ground_numbers.specs.Clauses.{unsettled, folded, fold_any, clauses_of, names_of};
+ghost use Rattle.ground_numbers.specs.Clauses.{all_clauses, all_names};
 ghost use Rattle.ground_atoms.specs.Formulas.{form_of};
 ghost use Rattle.clausify.specs.Formulas.{is_plain, is_plain_if_unsettled, normal, folded_of};
 

@@ -1,5 +1,6 @@
 // The problem of numbered formulas.
-ghost use Rattle.std.specs.Prelude.{◌≡◌, ◌++◌, [], true, IfOk, IfSome, length, map, replicate, take};
+ghost use Rattle.std.specs.Prelude.{◌≡◌, ◌++◌, [], true, IfOk, IfSome, length, map, replicate};
+ghost use Rattle.std.specs.Prelude.{take};
 ghost use Rattle.std.specs.List.{list_all};
 ghost use Rattle.proof_lines.specs.Problems.{names_below};
 ghost use Rattle.ground_numbers.specs.{Numbered.{is_below}, Problem.{kind_of, problem}};

@@ -1,7 +1,9 @@
 // The clauses of a plain formula: each "and" inside an "or" is named by a new atom. A sign goes with each part: where it is false, the
 // negation of that part is written, so that an "and" is an "or" and an "or" is an "and".
 ghost use Rattle.std.specs.Prelude.{◌≡◌, ◌+◌, ◌∷◌, ◌++◌, [], true, false, None, IfOk, OnOk};
-ghost use Rattle.ground_numbers.specs.Clauses.{any, names, literals, new_names, inner_names, written, whole, parts, in_front, clause_of, clauses_of, names_of};
+ghost use Rattle.ground_numbers.specs.Clauses.{any, names, literals, new_names, inner_names};
+ghost use Rattle.ground_numbers.specs.Clauses.{written, whole, parts, in_front, clause_of};
+ghost use Rattle.ground_numbers.specs.Clauses.{clauses_of, names_of};
 ghost use Rattle.proof_lines.specs.Clauses.{join, lit_of};
 ghost use Rattle.ground_atoms.specs.Formulas.{form_of};
 ghost use Rattle.clausify.specs.Formulas.{is_plain, is_plain_if_unsettled, normal, folded_of};

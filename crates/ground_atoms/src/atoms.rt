@@ -1,9 +1,11 @@
 // The numbering: which atoms and integer names have numbers, and which readings they name.
-ghost use Rattle.std.specs.Prelude.{◌≡◌, ◌++◌, true, IfOk, IfSome, IsTrue, OnOk, length, take, slice_get, option_copied, map};
+ghost use Rattle.std.specs.Prelude.{◌≡◌, ◌++◌, true, IfOk, IfSome, IsTrue, OnOk, length, take};
+ghost use Rattle.std.specs.Prelude.{slice_get, option_copied, map};
 ghost use Rattle.std.specs.Option.{option_map};
 ghost use Rattle.ground_numbers.specs.Numbers as numbers;
 ghost use Rattle.ground_atoms.specs.Symbols.{atom_of, integer_of, reading_of};
-ghost use Rattle.ground_atoms.specs.Known.{Known, nothing, know_atom, know_integer, reading_of_atom};
+ghost use Rattle.ground_atoms.specs.Known.{Known, nothing, know_atom, know_integer};
+ghost use Rattle.ground_atoms.specs.Known.{reading_of_atom};
 ghost use Rattle.ground_atoms.specs.{Sizes.{size_of, cut_back}, Staying.{NumbersStay}};
 ghost use Rattle.ground_problem.specs.Definitions.{reading_of_integer};
 

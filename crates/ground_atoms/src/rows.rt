@@ -3,8 +3,8 @@ ghost use Rattle.std.specs.Prelude.{◌≡◌, true, ◌+ℤ◌, ◌-ℤ◌, IfO
 ghost use Rattle.lin_rows.specs.{Numbers.{in_range}, Rows.{all_in_range}};
 ghost use Rattle.ground_problem.specs.Symbols.{at_most};
 ghost use Rattle.ground_numbers.specs.Numbers.{plain_of, bound_of, added_up, signed};
-ghost use Rattle.ground_atoms.specs.{Symbols.{parts_of}, Making.{make, make_row, make_terms, make_at_most_name}};
-ghost use Rattle.ground_atoms.specs.{Formulas.{form_of}, Staying.{NumbersStay}};
+ghost use Rattle.ground_atoms.specs.Making.{make, make_row, make_terms, make_at_most_name};
+ghost use Rattle.ground_atoms.specs.{Symbols.{parts_of}, Formulas.{form_of}, Staying.{NumbersStay}};
 
 use crate::atom::Atom;
 use crate::atoms::Atoms;

@@ -1,5 +1,6 @@
 // Equality goes over each of three constants of one sort to the other two.
-ghost use Rattle.std.specs.Prelude.{◌≡◌, ◌+◌, ◌≤◌, ◌<◌, ◌∷◌, [], ℕ, true, length, drop, slice_index};
+ghost use Rattle.std.specs.Prelude.{◌≡◌, ◌+◌, ◌≤◌, ◌<◌, ◌∷◌, [], ℕ, true, length, drop};
+ghost use Rattle.std.specs.Prelude.{slice_index};
 ghost use Rattle.std.specs.{Prelude.{IfOk}, List.{flat_map}};
 ghost use Rattle.ground_problem.specs.Constants.{of_sort};
 ghost use Rattle.ground_problem.specs.Symbols as symbols;

@@ -3,7 +3,8 @@
 // Where a search doesn't prove the obligation, all formulas are asked for. Those that the pairs stand for are made now, and put between
 // those in front and those behind. They are made as in any ground problem, which asks for numbers by guesses that are mostly right. They
 // name nothing new, so that nothing that was made is made anew.
-ghost use Rattle.std.specs.Prelude.{◌≡◌, ◌<◌, ◌+◌, ◌++◌, [], length, map, drop, slice_index_or, IfOk, OnOk};
+ghost use Rattle.std.specs.Prelude.{◌≡◌, ◌<◌, ◌+◌, ◌++◌, [], length, map, drop, slice_index_or};
+ghost use Rattle.std.specs.Prelude.{IfOk, OnOk};
 ghost use Rattle.std.specs.List.{flat_map};
 ghost use Rattle.spec_core.specs.Specification.{Specification};
 ghost use Rattle.spec_core.specs.declared.update.Thing.TheVariants as thing;

@@ -3,7 +3,8 @@
 // Obligations next to each other mostly go on from the same entry and have the same readings at it. Then the same pairs stand for the
 // formulas on equal readings, and these readings have the numbers that they had. What is left to be tested is what the next obligation
 // names itself: that no reading came to those at the entry.
-ghost use Rattle.std.specs.Prelude.{◌≡◌, ◌==◌, true, length, map, filter, ltb, Option, IfOk, IfSome, IsTrue, List};
+ghost use Rattle.std.specs.Prelude.{◌≡◌, ◌==◌, true, length, map, filter, ltb, Option, IfOk};
+ghost use Rattle.std.specs.Prelude.{IfSome, IsTrue, List};
 ghost use Rattle.std.specs.{List.{list_all, list_any}, Str.{bytes_eq}};
 ghost use Rattle.ground_problem.specs.Definitions.{Reading};
 ghost use Rattle.ground_numbers.specs.{Numbers.{Table}, Stages.{stage_of}};

@@ -3,7 +3,8 @@ ghost use Rattle.std.specs.Prelude.{◌≡◌, [], IfOk, IfSome, IsTrue, true, m
 ghost use Rattle.ground_numbers.specs.Numbers.{has_atom, has_number, number_of};
 ghost use Rattle.ground_atoms.specs.Symbols.{reading_of};
 ghost use Rattle.lazy_ground.specs.Pairs.{AreNumbers};
-ghost use Rattle.lazy_ground.specs.Named.{rise_from, all_rise, AreNumbersOfPairs, ArePairsAt, ArePairsOf, AreFound};
+ghost use Rattle.lazy_ground.specs.Named.{rise_from, all_rise, AreNumbersOfPairs, ArePairsAt};
+ghost use Rattle.lazy_ground.specs.Named.{ArePairsOf, AreFound};
 
 use crate::columns::columns_of;
 use crate::equal::are_within;
