@@ -4,7 +4,7 @@
 // clauses, on `needed_clauses`, which searches its whole problem where there is none, on
 // `model_back` and `witness_shrinking`, which make a witness of an interpretation, and on
 // `proof_report`, which writes the text. Definitions, in specs/: `Good` (when a verdict is good),
-// `Fitting` (which verdicts lines can hold), `Decided` (what can leave an obligation undecided
+// `Asked` (what a verdict on the obligation that is asked has to be), `Fitting` (which verdicts lines can hold), `Decided` (what can leave an obligation undecided
 // whose rows are differences), `Reports` (what is written), `Shown` (the state that a witness
 // shows). `Checking` mirrors the code. What decided obligations leave for others is kept by
 // `KeptCache` of `lazy_ground`.

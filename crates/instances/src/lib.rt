@@ -7,7 +7,8 @@
 // that were kept serves is a hint, and is tested where it is used (src/keys.rt).
 //
 // Definitions: specs/Ground (what the ground problem is, as a program holds it), specs/Entry (what is shared), specs/Pairs (how many pairs
-// there are), specs/Congruent (what the code has of the two parts of a formula on equal readings).
+// there are), specs/Congruent (what the code has of the two parts of a formula on equal readings), specs/Equalities (the numbers of equalities
+// of constants).
 //
 // In the field's words this is an instantiation: each line of the specification at all choices of
 // constants for its variables.
@@ -16,6 +17,8 @@
 // - `Grounded` keeps nothing by its type. What its parts keep is said once, of the definition
 //   (`law_obligation_fits`), and `ground` says that it answers that (`IsGrounded`): a type that
 //   kept it would want it while the list still grows.
+// - What stands in some formulas one after another is looked up once: the three equalities of three
+//   constants, and the names of a counter's readings at two tuples.
 #![tactic(auto)]
 
 /// The value of a call; where it fails, lets go of these values and ends with its error. Values that are let go by name are let go
