@@ -22,7 +22,7 @@ use Rattle.instances.proofs.Triples.{where_two}
 -- ---- numbers stay
 
 -- the number of a literal
-value : Numbered → ℕ
+abbrev value : Numbered → ℕ
 value (literal n b) = n
 value (known b) = 0
 value (negation f) = 0
@@ -97,6 +97,7 @@ pub numbered_first : {A : Type 0} (r : Result A GroundRefused) (old mid new : Gr
     → Appends r mid (three_agree a b c) new → Appends r old (three_agree a b c) new
 numbered_first r old mid new l m a b c ab bc ac s e f g h = begun r h
   where
+    there : AreNumbered mid.atoms a b c ab bc ac
     there = three_numbered old.atoms l m mid.atoms a b c ab bc ac e f g
 
     first : make old.atoms (where_two a b b c a c) ≡ make mid.atoms (where_two a b b c a c)

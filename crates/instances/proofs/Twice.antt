@@ -1,9 +1,8 @@
 -- Readings that stand in a formula twice: the second time nothing is new.
 use Rattle.std.proofs.Common.{◌≡◌, ℕ, Bool, true, cond, pos, List, [], ◌∷◌, ◌++◌, refl, sym, ◌∙◌, ap}
+use Rattle.std.specs.Prelude.{Result, Ok, Err, IfOk}
 use Rattle.std.specs.List.{list_any, position_or_len}
 use Rattle.spec_core.specs.declared.update.Thing.TheVariants as thing
-use Rattle.lin_rows.specs.declared.term.RowTerm.{RowTerm}
-use Rattle.lin_rows.specs.Rows.{Row}
 use Rattle.ground_problem.specs.Symbols.{Integer, reading, multiple, at_most}
 use Rattle.ground_problem.specs.Definitions.{reading_of_integer}
 use Rattle.ground_problem.specs.Equality.{readings_same}
@@ -52,10 +51,14 @@ name_stays : (k : Known) (x : Integer) → has_integer k.table x ≡ true → k 
 name_stays k x e =
     ap (λ (b : Bool). record { table = record { atoms = k.table.atoms; ints = cond b k.table.ints (k.table.ints ++ x ∷ []) }; named = unless_known b k.named (reading_of_integer x) }) (sym e)
 
--- a row names no whole number that isn't known
-row-names : (k : Known) (ts : List RowTerm) (r : Row) → (make_row k ts r).known.table.ints ≡ k.table.ints
-row-names k [] r = refl
-row-names k (t ∷ ts) r = refl
+-- a list is empty, or has a first element
+list_cases : {A : Type 0} (P : List A → Type 0) → P [] → ((x : A) (xs : List A) → P (x ∷ xs)) → (xs : List A) → P xs
+list_cases P e f [] = e
+list_cases P e f (x ∷ xs) = f x xs
+
+-- a row names no whole number
+row-names : (k : Known) (m n : ℕ) → (make_at_most_name k m n).known.table.ints ≡ k.table.ints
+row-names k m n = list_cases (λ ts. (make_row k ts (record { terms = added_up (difference m n); bound = pos 0 })).known.table.ints ≡ k.table.ints) refl (λ t ts. refl) (added_up (difference m n))
 
 -- one name is at most another one, where both have numbers
 at_most-known : (k : Known) (x y : Integer) (m n : ℕ) → has_integer k.table x ≡ true → has_integer k.table y ≡ true → integer_of k.table x ≡ m → integer_of k.table y ≡ n
@@ -81,7 +84,7 @@ count_twice k i t u l o m n up down el em eo en eu ed =
     let q = integer_of k1.table y in
     let first = make_at_most_name k2 p q in
     let k3 = first.known in
-    let ints : k3.table.ints ≡ k2.table.ints = row-names k2 (added_up (difference p q)) (record { terms = added_up (difference p q); bound = pos 0 }) in
+    let ints : k3.table.ints ≡ k2.table.ints = row-names k2 p q in
     let more = (with_integer-extends k1.table y).ints x (with_integer-has k.table x) in
     let has_x : has_integer k3.table x ≡ true = ap (list_any (same_integers x)) ints ∙ more.0 in
     let has_y : has_integer k3.table y ≡ true = ap (list_any (same_integers y)) ints ∙ with_integer-has k1.table y in
@@ -93,3 +96,8 @@ count_twice k i t u l o m n up down el em eo en eu ed =
     let two : make_at_most_name k3 q p ≡ down = (λ j. make_at_most_name (one j).known (sym on j) (sym em j)) ∙ ed in
     ap (λ (b : Made). record { known = b.known; form = conjunction first.form b.form }) (at_most-known k3 y x q p has_y has_x number_y number_x)
     ∙ (λ j. record { known = (two j).known; form = conjunction (one j).form (two j).form })
+
+-- what is weaker holds of an answer, too
+pub ok_weaker : {A E : Type 0} {P Q : A → Type 0} (r : Result A E) → ((a : A) → P a → Q a) → IfOk r P → IfOk r Q
+ok_weaker (Ok a) f h = f a h
+ok_weaker (Err e) f h = tt
