@@ -32,7 +32,7 @@ impl SearchState {
             drop(grown);
             return Err(AllocError);
         }
-        let trail = Trail::with_room(alloc, grown.atoms.len())?;
+        let trail = or_drop!(Trail::with_room(alloc, grown.atoms.len()); grown);
         Ok(SearchState {
             grown,
             trail,

@@ -1,5 +1,5 @@
 // Trails: the literals that a search takes to be true, in the order in which it came to them.
-ghost use Rattle.std.specs.Prelude.{◌≡◌, ◌<◌, ◌≤◌, ◌+◌, true, OnOk, OnErr, IfSome, IfNone};
+ghost use Rattle.std.specs.Prelude.{◌≡◌, ◌<◌, ◌≤◌, ◌+◌, true, OnOk, OnErr, IfOk, IfSome, IfNone};
 ghost use Rattle.std.specs.Prelude.{MatchOption, false, [], ◌∷◌, ◌++◌, reverse};
 ghost use Rattle.proof_lines.specs.Clauses.{has, flip};
 ghost use Rattle.sat_core.specs.Trails.{in_trail, negated, is_assigned, is_false, is_unit};
@@ -81,10 +81,12 @@ impl Trail {
     }
 
     /// The same, with room for one literal of each of so many atoms.
-    pub fn with_room(alloc: Global, atoms: usize) -> Result<Trail, AllocError> {
+    pub fn with_room(alloc: Global, atoms: usize) -> Result<Trail, AllocError>
+        ensures { IfOk result (λ trail. trail ≡ []) }
+    {
         let entries = Vec::with_capacity(alloc, atoms)?;
-        let positive = vec![in alloc; None; atoms]?;
-        let negative = vec![in alloc; None; atoms]?;
+        let positive = Vec::with_capacity(alloc, atoms)?;
+        let negative = Vec::with_capacity(alloc, atoms)?;
         Ok(Trail {
             entries,
             positive,

@@ -17,5 +17,5 @@ returns-clause-search c split budget =
     let m : c.len-else-len.result ≡ length p.atoms = c.len-else-len.ensures ∙ ap (λ (z : PlainProblem). length z.atoms) v in
     let cs : length p.clauses < 2 ^ 32 = omega (arith, n, c.if-len.false) in
     let ks : length p.atoms < 2 ^ 32 = omega (arith, m, c.if-len-2.false) in
-    let s : SearchState = record { grown = c.in_ok-grown.grown; trail = c.new.result; log = c.new-2.result } in
-    subst (λ (z : SearchState). InSearch a budget z) (sym (state-so s p [] [] e c.new.ensures c.new-2.ensures)) (search_begins a budget f cs ks c.requires.filled)
+    let s : SearchState = record { grown = c.in_ok-grown.grown; trail = c.in-Ok.value; log = c.new.result } in
+    subst (λ (z : SearchState). InSearch a budget z) (sym (state-so s p [] [] e c.in-Ok.ensures c.new.ensures)) (search_begins a budget f cs ks c.requires.filled)
