@@ -49,9 +49,7 @@ impl Propagation {
     {
         self.conflict = None;
         self.watches.units.clear();
-        if self.watches.pairs.is_empty() {
-            self.watches.make_room(problem)?;
-        }
+        self.watches.make_room(problem)?;
         let known = self.watches.pairs.len() as u32;
         for clause in known..clause_count(problem) {
             let lits = lits_of(problem, clause);

@@ -77,8 +77,15 @@ impl Watches {
         }
     }
 
-    /// Makes room for the clauses and the atoms of a problem.
-    pub(crate) fn make_room(&mut self, problem: &Problem) -> Result<(), AllocError> {
+    /// Makes room for the clauses and the atoms of a problem, where nothing is watched yet.
+    pub(crate) fn make_room(&mut self, problem: &Problem) -> Result<(), AllocError>
+        ensures pairs { self.new.pairs.items ≡ self.old.pairs.items }
+        ensures lists { self.new.lists.items ≡ self.old.lists.items }
+        ensures units { self.new.units ≡ self.old.units }
+    {
+        if !self.pairs.is_empty() {
+            return Ok(());
+        }
         self.pairs.reserve(problem.clauses.len())?;
         self.lists.reserve(problem.atoms.len().saturating_mul(2))
     }
