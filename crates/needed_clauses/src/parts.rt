@@ -10,6 +10,9 @@ use std::alloc::{AllocError, Global};
 /// The place of an atom that no clause of a part names.
 pub const NOWHERE: u32 = u32::MAX;
 
+// How many atoms a list of them has room for at first.
+const FEW_ATOMS: usize = 64;
+
 /// A problem of some clauses of a whole one: their numbers in it, the numbers of the atoms, and the place of each atom of the whole problem
 /// among these.
 #[derive(Drop)]
@@ -53,7 +56,7 @@ pub fn mark(places: &mut [u32], lits: &[Lit]) {
 
 /// Gives the atoms that are marked their places, in the order of their numbers, and lists them.
 pub fn number_marked(alloc: Global, places: &mut [u32]) -> Result<Vec<u32>, AllocError> {
-    let mut atoms = Vec::with_capacity(alloc, 64)?;
+    let mut atoms = Vec::with_capacity(alloc, FEW_ATOMS)?;
     for atom in 0..places.len() {
         if atom < places.len() && places[atom] != NOWHERE {
             places[atom] = number_of(atoms.len());

@@ -84,7 +84,7 @@ pub fn renumbered(
     ensures { IfOk result
         (λ ls. ls ≡ map (line_by (number_in clauses.now many) (number_in atoms.now whole)) log) }
 {
-    let mut lines = Items::from_vec(Vec::with_capacity(alloc, log.len())?);
+    let mut lines = Items::from_vec(or_drop!(Vec::with_capacity(alloc, log.len()); log));
     for line in log.into_vec() {
         let line = line_by(alloc, clauses, many, atoms, whole, line)?;
         lines.push(line)?;
