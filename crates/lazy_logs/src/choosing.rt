@@ -135,11 +135,6 @@ pub fn add_named(
             chosen.add_kept(alloc, ground, sizes.first, *number)?;
             continue;
         }
-        if let Some(place) = number.checked_sub(layout.equality) {
-            if chosen.add_transitive(alloc, ground, layout, place)? {
-                continue;
-            }
-        }
         let pair = pair_of(ground, layout, *number);
         if pair == last {
             continue;

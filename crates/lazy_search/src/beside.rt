@@ -3,9 +3,11 @@
 // Those whose readings and rows are all among some atoms, those that name a part that one of these names, and those of one literal on what
 // these name. So the clauses of invariants that say nothing of these atoms aren't looked at, and those that lead from them to other readings
 // come later, where an interpretation makes them false.
+use crate::parts::FEW_ATOMS;
 use clausify::KeptClauses;
 use ground_atoms::{Atom, Atoms};
-use needed_clauses::parts::{NOWHERE, place_of};
+use items::or_drop;
+use needed_clauses::parts::{NOWHERE, no_places, place_of};
 use proof_lines::Lit;
 use std::alloc::{AllocError, Global};
 
@@ -42,7 +44,8 @@ fn are_allowed(atoms: &Atoms, marks: &[bool], lits: &[Lit]) -> bool {
         || matches!(atoms.atom(lit.atom), Some(Atom::Same(_, _))))
 }
 
-// The places of the clauses that were found, and for each part the first of them that names it.
+// The places of the clauses that were found; for each part the first of them that names it; and the parts that are named, and whose clauses
+// weren't looked for yet.
 #[derive(Drop)]
 struct Found {
     places: Vec<u32>,
@@ -52,10 +55,10 @@ struct Found {
 
 impl Found {
     fn new(alloc: Global, parts: usize) -> Result<Found, AllocError> {
-        let mut firsts = Vec::new(alloc);
-        firsts.resize(parts, NOWHERE)?;
+        let firsts = no_places(alloc, parts)?;
+        let places = or_drop!(Vec::with_capacity(alloc, FEW_ATOMS); firsts);
         Ok(Found {
-            places: Vec::with_capacity(alloc, 64)?,
+            places,
             firsts,
             parts: Vec::new(alloc),
         })
@@ -174,6 +177,37 @@ impl Found {
         }
         Ok(())
     }
+
+    // Adds all these clauses, where the atoms that are among these are marked.
+    fn add_beside(
+        &mut self,
+        atoms: &Atoms,
+        kept: &KeptClauses,
+        named: &[u32],
+        marks: &[bool],
+        taken: &mut [bool],
+    ) -> Result<(), AllocError> {
+        for atom in named {
+            if *atom < kept.first {
+                self.add_allowed(kept, atoms, *atom, marks, taken)?;
+            }
+        }
+        self.add_of_parts(kept, taken)?;
+        self.take_all_single(kept, taken)
+    }
+
+    // The places, in rising order.
+    fn into_places(self) -> Vec<u32> {
+        let Found {
+            mut places,
+            firsts,
+            parts,
+        } = self;
+        drop(firsts);
+        drop(parts);
+        places.sort_unstable();
+        places
+    }
 }
 
 /// The places of these clauses, where the atoms are these, in rising order. They are taken; none was before.
@@ -185,21 +219,9 @@ pub(crate) fn kept_beside(
     taken: &mut [bool],
 ) -> Result<Vec<u32>, AllocError> {
     let marks = allowed(alloc, kept.first, named)?;
-    let mut found = Found::new(alloc, kept.names as usize)?;
-    for atom in named {
-        if *atom < kept.first {
-            found.add_allowed(kept, atoms, *atom, marks.as_slice(), taken)?;
-        }
-    }
-    found.add_of_parts(kept, taken)?;
-    found.take_all_single(kept, taken)?;
-    let Found {
-        mut places,
-        firsts,
-        parts,
-    } = found;
-    drop(firsts);
-    drop(parts);
-    places.sort_unstable();
-    Ok(places)
+    let mut found = or_drop!(Found::new(alloc, kept.names as usize); marks);
+    let added = found.add_beside(atoms, kept, named, marks.as_slice(), taken);
+    drop(marks);
+    or_drop!(added; found);
+    Ok(found.into_places())
 }

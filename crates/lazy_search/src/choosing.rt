@@ -1,6 +1,6 @@
 // Some clauses of a lazy ground problem, with the numbers that they have among all.
 ghost use Rattle.std.specs.Prelude.{◌≡◌, ◌≤◌, ◌+◌, ◌++◌, ℕ, List, length, map, take, drop, OnOk};
-ghost use Rattle.std.specs.{Prelude.{IfOk, IfSome}, List.{range_with_len}};
+ghost use Rattle.std.specs.{Prelude.{[], IfOk, IfSome}, List.{range_with_len}};
 ghost use Rattle.proof_lines.specs.declared.clause.Lit.{Lit as PlainLit};
 ghost use Rattle.ground_numbers.specs.Clauses.{all_clauses, all_names};
 ghost use Rattle.ground_atoms.specs.Formulas.{form_of};
@@ -13,7 +13,7 @@ use crate::places::{Layout, Place, firsts_of, place_of_pair};
 use clausify::{KeptClauses, write_clauses};
 use ground_atoms::GroundFormula;
 use instances::kept_clauses;
-use items::Items;
+use items::{Items, or_drop};
 use lazy_ground::{LazyGround, pair_formula};
 use proof_lines::Clause;
 use std::alloc::{AllocError, Global};
@@ -41,30 +41,6 @@ fn add_numbers(numbers: &mut Vec<u32>, from: u32, many: usize) -> Result<(), All
     Ok(())
 }
 
-// How many of the last formulas say that equality is transitive.
-pub(crate) fn count_implied(forms: &[GroundFormula]) -> usize {
-    let mut count = 0usize;
-    for back in 0..forms.len() {
-        let GroundFormula::Implied(_, _, _) = &forms[forms.len() - 1 - back] else {
-            break;
-        };
-        count += 1;
-    }
-    count
-}
-
-// The place behind so many clauses that name no part.
-fn moved_over(at: Place, many: usize) -> Option<Place> {
-    let Ok(more) = u32::try_from(many) else {
-        return None;
-    };
-    let clause = at.clause.checked_add(more)?;
-    Some(Place {
-        clause,
-        name: at.name,
-    })
-}
-
 // The formulas behind so many.
 fn forms_behind(forms: &[GroundFormula], count: usize) -> &[GroundFormula]
     ensures { map form_of result.now ≡ drop count (map form_of forms.now) }
@@ -76,6 +52,16 @@ fn forms_behind(forms: &[GroundFormula], count: usize) -> &[GroundFormula]
 }
 
 impl Chosen {
+    // None yet, with room for so many.
+    fn with_room(alloc: Global, many: usize) -> Result<Chosen, AllocError>
+        ensures clauses { IfOk result (λ chosen. chosen.clauses ≡ []) }
+        ensures numbers { IfOk result (λ chosen. chosen.numbers.items ≡ []) }
+    {
+        let clauses = Items::from_vec(Vec::with_capacity(alloc, many)?);
+        let numbers = or_drop!(Vec::with_capacity(alloc, many); clauses);
+        Ok(Chosen { clauses, numbers })
+    }
+
     // Adds the clauses of some formulas, which stand from a place on, and answers the place behind them.
     fn add(
         &mut self,
@@ -152,8 +138,7 @@ impl Chosen {
             → AreAt all self.new.clauses self.new.numbers.items) }
         ensures behind { IfOk result (IsBehind name (map form_of ground.now.front)) }
     {
-        let all = ground.front.as_slice();
-        let front = &all[..all.len() - count_implied(all)];
+        let front = ground.front.as_slice();
         match kept_clauses(&ground.part) {
             Some((kept, count)) if kept.first <= name => {
                 self.add_behind(alloc, name, front, count, kept)
@@ -180,22 +165,12 @@ impl Chosen {
         ensures layout { IfOk result (λ found. IfSome found
             (λ layout. IsLayout ground.now name layout)) }
     {
-        let equality = self.add_front(alloc, ground, name)?;
-        let front = ground.front.as_slice();
-        let many = count_implied(front);
-        let Some(first) = moved_over(equality, many) else {
-            return Ok(None);
-        };
+        let first = self.add_front(alloc, ground, name)?;
         let Some((firsts, pairs_end)) = firsts_of(alloc, first, ground.pairs.as_slice())? else {
             return Ok(None);
         };
         match self.add(alloc, pairs_end, ground.behind.as_slice()) {
-            Ok(behind) => Ok(Some(Layout {
-                firsts,
-                behind,
-                equality: equality.clause,
-                from: front.len() - many,
-            })),
+            Ok(behind) => Ok(Some(Layout { firsts, behind })),
             Err(error) => {
                 drop(firsts);
                 Err(error)
@@ -226,38 +201,6 @@ impl Chosen {
         };
         self.clauses.push(clause)?;
         self.numbers.push(place)?;
-        Ok(true)
-    }
-
-    /// Adds the clause at a place among those that say that equality is transitive. It says whether it did: it does not where none stands
-    /// there, or numbers don't reach.
-    pub fn add_transitive(
-        &mut self,
-        alloc: Global,
-        ground: &LazyGround,
-        layout: &Layout,
-        place: u32,
-    ) -> Result<bool, AllocError>
-        requires { ArePairs ground.now.atoms.table ground.now.pairs }
-        ensures { OnOk result ((name : ℕ) → IsLayout ground.now name layout.now
-            → AreAt (all_clauses name (lazy_forms ground.now))
-            self.old.clauses self.old.numbers.items
-            → AreAt (all_clauses name (lazy_forms ground.now))
-            self.new.clauses self.new.numbers.items) }
-    {
-        let at = layout.from.saturating_add(place as usize);
-        if at >= ground.front.len() {
-            return Ok(false);
-        }
-        let Some(clause) = layout.equality.checked_add(place) else {
-            return Ok(false);
-        };
-        let first = Place {
-            clause,
-            name: layout.behind.name,
-        };
-        let forms = forms_behind(ground.front.as_slice(), at);
-        self.add(alloc, first, &forms[..1])?;
         Ok(true)
     }
 
@@ -306,17 +249,15 @@ impl Chosen {
     }
 }
 
-// About how many clauses there are without those of the entry and those of pairs.
-fn count_more(ground: &LazyGround) -> usize {
-    let front = ground.front.as_slice();
+// About how many clauses the formulas have that are written at once: those behind the entry's, but for those of pairs.
+fn count_written(ground: &LazyGround) -> usize {
     let kept = match kept_clauses(&ground.part) {
         Some((_, count)) => count,
         None => 0,
     };
-    let own = front
-        .len()
-        .saturating_sub(kept.saturating_add(count_implied(front)));
-    own.saturating_mul(2)
+    let front = ground.front.len().saturating_sub(kept);
+    front
+        .saturating_mul(2)
         .saturating_add(ground.behind.len().saturating_mul(3))
 }
 
@@ -335,11 +276,7 @@ pub fn chosen_front(
     ensures layout { IfOk result (λ answer. IfSome answer
         (λ found. IsLayout ground.now name found.1)) }
 {
-    let more = count_more(ground);
-    let mut chosen = Chosen {
-        clauses: Items::from_vec(Vec::with_capacity(alloc, more)?),
-        numbers: Vec::with_capacity(alloc, more)?,
-    };
+    let mut chosen = Chosen::with_room(alloc, count_written(ground))?;
     match chosen.add_around(alloc, ground, name) {
         Ok(Some(layout)) => Ok(Some((chosen, layout))),
         Ok(None) => {

@@ -14,6 +14,9 @@ use needed_clauses::parts::{NOWHERE, no_places, number_of, placed};
 use proof_lines::{AtomKind, Clause, Lit, Problem};
 use std::alloc::{AllocError, Global};
 
+/// Room for the atoms that a few clauses name, or for their places; most parts have fewer.
+pub(crate) const FEW_ATOMS: usize = 64;
+
 /// A problem of some chosen clauses: these, the numbers of its atoms in the whole problem, and the place of each atom of that among these.
 #[derive(Drop)]
 pub struct Part {
@@ -108,7 +111,7 @@ fn marked(
     others: &[Lit],
     places: &mut [u32],
 ) -> Result<Vec<u32>, AllocError> {
-    let mut atoms = Vec::with_capacity(alloc, 64)?;
+    let mut atoms = Vec::with_capacity(alloc, FEW_ATOMS)?;
     for pick in picks {
         mark_new(places, lits_at(chosen, *pick), &mut atoms)?;
     }
@@ -120,8 +123,9 @@ fn marked(
 // Gives the atoms their places, in their order.
 fn number(places: &mut [u32], atoms: &[u32]) {
     for (place, atom) in atoms.iter().enumerate() {
-        if (*atom as usize) < places.len() {
-            places[*atom as usize] = number_of(place);
+        let atom = *atom as usize;
+        if atom < places.len() {
+            places[atom] = number_of(place);
         }
     }
 }
@@ -143,7 +147,7 @@ pub fn part_of(
 {
     let mut places = no_places(alloc, count_named(chosen))?;
     let picked = picks.places.as_slice();
-    let atoms = marked(alloc, chosen, picked, others, places.as_mut_slice())?;
+    let atoms = or_drop!(marked(alloc, chosen, picked, others, places.as_mut_slice()); places);
     number(places.as_mut_slice(), atoms.as_slice());
     let own = problem_of(
         alloc,

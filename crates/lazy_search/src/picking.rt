@@ -8,10 +8,10 @@
 use crate::Chosen;
 use crate::agreeing::value_of;
 use crate::beside::{kept_beside, take};
-use crate::parts::{Part, count_named};
+use crate::parts::{FEW_ATOMS, Part, count_named};
 use crate::testing::Picks;
 use clausify::KeptClauses;
-use ground_atoms::{Atom, Atoms, GroundFormula, IntName};
+use ground_atoms::{Atom, Atoms, IntName};
 use needed_clauses::parts::{NOWHERE, mark, no_places, number_of, place_of};
 use proof_lines::Lit;
 use std::alloc::{AllocError, Global};
@@ -23,7 +23,6 @@ pub(crate) struct Picked {
     pub marks: Vec<bool>,
     pub named: Vec<u32>,
     pub kept: Vec<bool>,
-    pub transitive: Vec<bool>,
 }
 
 fn is_later_integer(atoms: &Atoms, number: u32) -> bool {
@@ -81,30 +80,6 @@ fn is_beside(atoms: &Atoms, places: &[u32], lits: &[Lit]) -> bool {
     !is_other
 }
 
-// Whether the three equalities are marked of which two imply the third.
-fn are_marked(places: &[u32], form: &GroundFormula) -> bool {
-    match form {
-        GroundFormula::Implied(first, second, third) => {
-            place_of(places, *first) != NOWHERE
-                && place_of(places, *second) != NOWHERE
-                && place_of(places, *third) != NOWHERE
-        }
-        _ => false,
-    }
-}
-
-// Whether truth values of a part make the first two equalities true and the third one false.
-fn is_false_implied(part: &Part, truths: &[bool], form: &GroundFormula) -> bool {
-    match form {
-        GroundFormula::Implied(first, second, third) => {
-            value_of(part, truths, *first)
-                && value_of(part, truths, *second)
-                && !value_of(part, truths, *third)
-        }
-        _ => false,
-    }
-}
-
 // Marks the parts that a clause names: their clauses stand behind it.
 fn mark_parts(atoms: &Atoms, places: &mut [u32], lits: &[Lit]) {
     for lit in lits {
@@ -152,7 +127,7 @@ impl Picked {
         places: &mut [u32],
     ) -> Result<Picked, AllocError> {
         let mut marks = Vec::with_capacity(alloc, chosen.clauses.len())?;
-        let mut named = Vec::with_capacity(alloc, 64)?;
+        let mut named = Vec::with_capacity(alloc, FEW_ATOMS)?;
         for clause in chosen.clauses.iter() {
             let is_picked = is_central(atoms, clause.lits());
             if is_picked {
@@ -164,7 +139,6 @@ impl Picked {
             marks,
             named,
             kept: Vec::new(alloc),
-            transitive: Vec::new(alloc),
         })
     }
 
@@ -177,18 +151,9 @@ impl Picked {
     }
 
     /// The clauses that are searched first.
-    pub fn first(
-        alloc: Global,
-        atoms: &Atoms,
-        chosen: &Chosen,
-        transitive: &[GroundFormula],
-    ) -> Result<Picked, AllocError> {
+    pub fn first(alloc: Global, atoms: &Atoms, chosen: &Chosen) -> Result<Picked, AllocError> {
         let mut places = no_places(alloc, count_named(chosen))?;
         let mut picked = Picked::central(alloc, atoms, chosen, places.as_mut_slice())?;
-        picked.transitive.reserve(transitive.len())?;
-        for form in transitive {
-            picked.transitive.push(are_marked(places.as_slice(), form))?;
-        }
         for (place, clause) in chosen.clauses.iter().enumerate() {
             if is_beside(atoms, places.as_slice(), clause.lits()) {
                 mark_parts(atoms, places.as_mut_slice(), clause.lits());
@@ -196,45 +161,6 @@ impl Picked {
             }
         }
         Ok(picked)
-    }
-
-    /// The places of the clauses that say that equality is transitive and are searched first.
-    pub fn first_transitive(&self, alloc: Global) -> Result<Vec<u32>, AllocError> {
-        let mut found = Vec::new(alloc);
-        for (place, is_first) in self.transitive.iter().enumerate() {
-            if *is_first {
-                found.push(number_of(place))?;
-            }
-        }
-        Ok(found)
-    }
-
-    /// Chooses of the clauses that say that equality is transitive those that truth values of a part make false, and answers their places.
-    pub fn false_transitive(
-        &mut self,
-        alloc: Global,
-        transitive: &[GroundFormula],
-        part: &Part,
-        truths: &[bool],
-    ) -> Result<Vec<u32>, AllocError> {
-        let mut found = Vec::new(alloc);
-        for (place, form) in transitive.iter().enumerate() {
-            if is_false_implied(part, truths, form) && take(self.transitive.as_mut_slice(), place) {
-                found.push(number_of(place))?;
-            }
-        }
-        Ok(found)
-    }
-
-    /// Chooses all clauses that say that equality is transitive, and answers the places of those that weren't.
-    pub fn other_transitive(&mut self, alloc: Global) -> Result<Vec<u32>, AllocError> {
-        let mut found = Vec::new(alloc);
-        for place in 0..self.transitive.len() {
-            if take(self.transitive.as_mut_slice(), place) {
-                found.push(number_of(place))?;
-            }
-        }
-        Ok(found)
     }
 
     /// Chooses of the entry's clauses those that are searched first, and answers their places.
@@ -350,8 +276,9 @@ impl Picked {
     pub fn picks(&self, alloc: Global, numbers: &[u32]) -> Result<Picks, AllocError> {
         let mut picks = Picks {
             places: Vec::with_capacity(alloc, numbers.len())?,
-            numbers: Vec::with_capacity(alloc, numbers.len())?,
+            numbers: Vec::new(alloc),
         };
+        picks.numbers.reserve(numbers.len())?;
         self.add_picks(numbers, true, &mut picks)?;
         self.add_picks(numbers, false, &mut picks)?;
         Ok(picks)

@@ -12,14 +12,11 @@ pub struct Place {
     pub name: u32,
 }
 
-/// The first place of each relation's pairs, and the place behind all clauses of the problem; the number of the first clause that says
-/// that equality is transitive, and the place of its formula in front of the pairs.
+/// The first place of each relation's pairs, and the place behind all clauses of the problem.
 #[derive(Drop)]
 pub struct Layout {
     pub firsts: Vec<Place>,
     pub behind: Place,
-    pub equality: u32,
-    pub from: usize,
 }
 
 // How many pairs so many tuples have, where numbers reach that.

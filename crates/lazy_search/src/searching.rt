@@ -15,8 +15,7 @@ use crate::measured::Measured;
 use crate::parts::{Part, part_of};
 use crate::picking::Picked;
 use crate::trying::{Aim, broken_by};
-use crate::{Chosen, Layout, chosen_front};
-use ground_atoms::GroundFormula;
+use crate::{Chosen, chosen_front};
 use instances::kept_clauses;
 use items::{Items, or_drop};
 use lazy_ground::LazyGround;
@@ -54,7 +53,6 @@ pub enum LazyAnswer {
 #[derive(Drop)]
 pub struct MoreClauses {
     pub is_picking: bool,
-    pub transitive: Vec<u32>,
     pub places: Vec<u32>,
     pub pairs: Vec<PairAt>,
 }
@@ -130,24 +128,19 @@ fn judge_found(
         → IsStep d ob measured.now.ground.now budget step) }
 {
     let is_picking = picked.pick_false(chosen, part, truths);
-    let forms = transitive_of(measured.ground, measured.layout);
-    let transitive = picked.false_transitive(alloc, forms, part, truths)?;
-    let places = or_drop!(false_kept(alloc, measured, picked, part, truths); transitive);
-    let is_open = is_picking || !transitive.is_empty();
-    let pairs = if is_open {
+    let places = false_kept(alloc, measured, picked, part, truths)?;
+    let pairs = if is_picking {
         Vec::new(alloc)
     } else {
-        or_drop!(disagreeing(alloc, measured.ground, part, truths); places, transitive)
+        or_drop!(disagreeing(alloc, measured.ground, part, truths); places)
     };
-    if !is_open && places.is_empty() && pairs.is_empty() {
-        drop(transitive);
+    if !is_picking && places.is_empty() && pairs.is_empty() {
         drop(places);
         drop(pairs);
         return Ok(Step::Answered(LazyAnswer::Satisfiable));
     }
     Ok(Step::MoreClauses(MoreClauses {
         is_picking,
-        transitive,
         places,
         pairs,
     }))
@@ -210,35 +203,6 @@ fn add_pairs(
     Ok(some)
 }
 
-// The formulas that say that equality is transitive.
-fn transitive_of<'a>(ground: &'a LazyGround, layout: &Layout) -> &'a [GroundFormula] {
-    let front = ground.front.as_slice();
-    if layout.from > front.len() {
-        return &[];
-    }
-    &front[layout.from..]
-}
-
-// Adds the clauses at these places that say that equality is transitive. It says whether it added any.
-fn add_transitive(
-    alloc: Global,
-    measured: &Measured<'_>,
-    chosen: &mut Chosen,
-    places: &[u32],
-) -> Result<bool, AllocError>
-    requires measured { IsMeasured measured.now }
-    requires chosen { AreOf measured.now.ground.now chosen.now }
-    ensures { OnOk result (AreOf measured.now.ground.now chosen.new) }
-{
-    let mut some = false;
-    for place in places {
-        if chosen.add_transitive(alloc, measured.ground, measured.layout, *place)? {
-            some = true;
-        }
-    }
-    Ok(some)
-}
-
 // Adds the entry's clauses at these places. It says whether it added any.
 fn add_kept(
     alloc: Global,
@@ -270,10 +234,9 @@ fn add_more(
     requires chosen { AreOf measured.now.ground.now chosen.now }
     ensures { OnOk result (AreOf measured.now.ground.now chosen.new) }
 {
-    let has_transitive = add_transitive(alloc, measured, chosen, more.transitive.as_slice())?;
     let has_kept = add_kept(alloc, measured, chosen, more.places.as_slice())?;
     let has_pairs = add_pairs(alloc, measured, chosen, more.pairs.as_slice())?;
-    Ok(more.is_picking || has_transitive || has_kept || has_pairs)
+    Ok(more.is_picking || has_kept || has_pairs)
 }
 
 // Picks the clauses for the next round: the new ones, and after some rounds all.
@@ -291,8 +254,6 @@ fn pick_next(
     if round < PICKY_ROUNDS {
         return picked.pick_new(chosen.clauses.len());
     }
-    let transitive = picked.other_transitive(alloc)?;
-    add_transitive(alloc, measured, chosen, transitive.as_slice())?;
     let places = picked.choose_others(alloc)?;
     add_kept(alloc, measured, chosen, places.as_slice())?;
     picked.pick_all(chosen.clauses.len())
@@ -390,11 +351,7 @@ fn search_chosen(
     requires chosen { AreOf measured.now.ground.now chosen.now }
     ensures { IfOk result (λ answer. IsLazyAnswerTo aim.now measured.now.ground.now answer) }
 {
-    let forms = transitive_of(measured.ground, measured.layout);
-    let mut picked = Picked::first(alloc, &measured.ground.atoms, chosen, forms)?;
-    let transitive = picked.first_transitive(alloc)?;
-    add_transitive(alloc, measured, chosen, transitive.as_slice())?;
-    picked.pick_new(chosen.clauses.len())?;
+    let mut picked = Picked::first(alloc, &measured.ground.atoms, chosen)?;
     if is_first_without_entry(measured.ground) {
         match rounds(alloc, measured, chosen, &mut picked, aim)? {
             LazyAnswer::Refuted(log) => return Ok(LazyAnswer::Refuted(log)),
