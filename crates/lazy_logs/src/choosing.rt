@@ -104,14 +104,6 @@ pub fn number_of_empty(ground: &LazyGround, chosen: &Chosen) -> Option<u32> {
     Some(number_of(place_of_empty(kept.clauses.as_slice())?))
 }
 
-// How many clauses of the entry are at hand: these have the first numbers.
-fn count_kept(ground: &LazyGround) -> usize {
-    match kept_clauses(&ground.part) {
-        Some((kept, _)) => kept.clauses.len(),
-        None => 0,
-    }
-}
-
 /// Adds the clauses that have these numbers, in rising order, and aren't among the chosen ones.
 pub fn add_named(
     alloc: Global,
@@ -128,11 +120,9 @@ pub fn add_named(
     requires chosen { AreOf ground.now chosen.now }
     ensures { OnOk result (AreOf ground.now chosen.new) }
 {
-    let kept = count_kept(ground);
     let mut last = None;
     for number in numbers {
-        if (*number as usize) < kept {
-            chosen.add_kept(alloc, ground, sizes.first, *number)?;
+        if chosen.add_numbered(alloc, ground, sizes, layout, *number)? {
             continue;
         }
         let pair = pair_of(ground, layout, *number);

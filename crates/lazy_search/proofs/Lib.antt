@@ -3,6 +3,7 @@ mod Sizes
 mod Ranks
 mod Adding
 mod Standing
+mod Implied
 mod Placing
 mod Behind
 mod WholeAtoms

@@ -1,6 +1,6 @@
 -- The places of relations' pairs in a lazy ground problem.
-use Rattle.std.proofs.Common.{◌≡◌, ℕ, zero, suc, ◌+◌, ◌<◌, ◌⊎◌, inl, inr, List, [], ◌∷◌, ◌++◌, length, map, take, drop, get_or, slice_get, Some, option_map, refl, sym, ◌∙◌, ap, subst, arith}
-use Rattle.std.specs.List.{flat_map}
+use Rattle.std.proofs.Common.{◌≡◌, ℕ, zero, suc, ◌+◌, ◌<◌, true, ◌⊎◌, inl, inr, List, [], ◌∷◌, ◌++◌, length, map, take, drop, get_or, slice_get, Some, option_map, refl, sym, ◌∙◌, ap, subst, arith}
+use Rattle.std.specs.List.{flat_map, list_all}
 use Rattle.std.proofs.lemmas.List.{length-append, length-map, append-nil, append_assoc}
 use Rattle.std.proofs.lemmas.Option.{slice_get-map}
 use Rattle.proof_lines.specs.declared.clause.Lit.{Lit}
@@ -16,7 +16,7 @@ use Rattle.lazy_ground.specs.Pairs.{pairs_of, pair_forms, AreDifferent, HasAtoms
 use Rattle.lazy_ground.specs.Lazy.{lazy_forms, ArePairs}
 use Rattle.lazy_search.specs.declared.places.Place.{Place}
 use Rattle.lazy_search.specs.declared.places.Layout.{Layout}
-use Rattle.lazy_search.specs.Chosen.{AreAt, StandFrom, IsBehind, forms_before, IsLayout, pairs_among, all_pairs, pair_place, IsMoved, AreMoved}
+use Rattle.lazy_search.specs.Chosen.{AreAt, StandFrom, IsBehind, forms_before, is_implied, IsLayout, pairs_among, all_pairs, pair_place, IsMoved, AreMoved}
 use Rattle.lazy_search.proofs.Ranks.{pairs-length, placed-pair}
 use Rattle.lazy_search.proofs.Standing.{stand_between, more_behind, AreSized, sized-append, sized_behind, stand_sized, pairs-sized}
 
@@ -107,12 +107,6 @@ pair_stands g name r i j s f first at p e h a b m q =
 start-behind : (name : ℕ) (at : Place) → at.clause ≡ 0 → at.name ≡ name → IsBehind name [] at
 start-behind name at c n = (c, omega (arith, n))
 
--- the clauses in front stand from the beginning on
-pub front_stands : (g : LazyGround) (name : ℕ) (at : Place) → at.clause ≡ 0 → at.name ≡ name
-    → StandFrom (all_clauses name (lazy_forms g)) at.clause (all_clauses at.name (map form_of g.front))
-front_stands g name at c n =
-    stand_between name [] (map form_of g.front) (flat_map (pair_forms g.atoms.table) g.pairs ++ map form_of g.behind) at (start-behind name at c n)
-
 -- the place behind those in front
 pub front_behind : (g : LazyGround) (name : ℕ) (at first : Place) → at.clause ≡ 0 → at.name ≡ name
     → first.clause ≡ at.clause + length (all_clauses at.name (map form_of g.front)) → first.name ≡ at.name + all_names (map form_of g.front)
@@ -148,15 +142,18 @@ behind_stands g name first at h p m =
 
 -- the places of all
 pub laid_out : (g : LazyGround) (name : ℕ) (first at : Place) (layout : Layout) → IsBehind name (map form_of g.front) first → ArePairs g.atoms.table g.pairs
+    → IsBehind name (map form_of (take layout.from g.front)) layout.transitive → list_all is_implied (drop layout.from g.front) ≡ true
     → AreMoved first g.pairs layout.firsts.items at
     → layout.behind.clause ≡ at.clause + length (all_clauses at.name (map form_of g.behind)) → layout.behind.name ≡ at.name + all_names (map form_of g.behind)
     → IsLayout g name layout
-laid_out g name first at layout h p m c n = record {
+laid_out g name first at layout h p t i m c n = record {
   as_many = m.as_many;
   firsts = λ r a e. relations-behind g name (take r g.pairs) first a h (pairs-take g.atoms.table r g.pairs p) (m.each r a e);
   behind = subst (λ (z : List Numbered). IsBehind name z layout.behind) (append_assoc (map form_of g.front) (flat_map (pair_forms g.atoms.table) g.pairs) (map form_of g.behind))
       (more_behind name (map form_of g.front ++ flat_map (pair_forms g.atoms.table) g.pairs) (map form_of g.behind) at layout.behind
       (relations-behind g name g.pairs first at h p m.behind) c n);
+  transitive = t;
+  implied = i;
 }
 
 -- no clauses have no numbers

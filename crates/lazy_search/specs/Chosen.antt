@@ -1,9 +1,10 @@
 -- Some clauses of a lazy ground problem, with the numbers that they have among all.
-use Rattle.std.specs.Prelude.{◌≡◌, ℕ, zero, suc, ◌+◌, ◌-◌, ◌*◌, List, [], ◌∷◌, ◌++◌, length, map, take, slice_get, slice_index_or, Some}
-use Rattle.std.specs.List.{flat_map}
+use Rattle.std.specs.Prelude.{◌≡◌, ℕ, zero, suc, ◌+◌, ◌-◌, ◌*◌, Bool, true, false, List, [], ◌∷◌, ◌++◌, length, map, take, drop, slice_get, slice_index_or, Some}
+use Rattle.std.specs.List.{flat_map, list_all}
 use Rattle.proof_lines.specs.declared.clause.Lit.{Lit}
 use Rattle.ground_numbers.specs.Numbered.{Numbered}
 use Rattle.ground_numbers.specs.Clauses.{all_clauses, all_names}
+use Rattle.ground_atoms.specs.declared.formula.GroundFormula.{GroundFormula, Implied}
 use Rattle.ground_atoms.specs.Formulas.{form_of}
 use Rattle.lazy_ground.specs.declared.pairs.ReadingPairs.{ReadingPairs}
 use Rattle.lazy_ground.specs.declared.grounding.LazyGround.{LazyGround}
@@ -36,12 +37,20 @@ IsBehind name fs at = (at.clause ≡ length (all_clauses name fs)) × (at.name �
 abbrev pub forms_before : LazyGround → ℕ → List Numbered
 forms_before g r = map form_of g.front ++ flat_map (pair_forms g.atoms.table) (take r g.pairs)
 
--- The first place of each relation's pairs, and the place behind all clauses, where the first atom that names a part has this number.
+-- Whether a formula says that two atoms imply a third one, as each does that says that equality is transitive.
+abbrev pub is_implied : GroundFormula → Bool
+is_implied (Implied k m n) = true
+is_implied _ = false
+
+-- The first place of each relation's pairs, and the place behind all clauses, where the first atom that names a part has this number. From
+-- a place on, the formulas in front of the pairs say that two atoms imply a third one, and this is the place of their first clause.
 pub record IsLayout (g : LazyGround) (name : ℕ) (layout : Layout) : Type 0 where
   pub as_many : length layout.firsts.items ≡ length g.pairs
   pub firsts : (r : ℕ) (at : Place) → slice_get layout.firsts.items r ≡ Some at
       → IsBehind name (forms_before g r) at
   pub behind : IsBehind name (lazy_forms g) layout.behind
+  pub transitive : IsBehind name (map form_of (take layout.from g.front)) layout.transitive
+  pub implied : list_all is_implied (drop layout.from g.front) ≡ true
 
 -- ---- pairs
 

@@ -12,7 +12,8 @@
 //
 // Some clauses of the problem are written without the others (src/choosing.rt). Every two tuples of a relation have three clauses that
 // say that they read the same where they are equal, and one atom that names a part; so the numbers of their clauses are told by how
-// many pairs there are before them (src/places.rt), and the others aren't made.
+// many pairs there are before them (src/places.rt), and the others aren't made. The last formulas in front of them, which say that
+// equality is transitive, have one clause each and name no part, and their clauses are written in the same way.
 //
 // Definitions: specs/Chosen (clauses that have numbers among all, and the places of pairs), specs/Refuting (what is answered, and
 // what the tests of a part say).

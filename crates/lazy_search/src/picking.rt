@@ -2,8 +2,9 @@
 //
 // First those that say something of a later stage, and those of one literal: the conclusion, the definitions and most preconditions. Then
 // those of the others that name a reading, a row or a part that one of these names, and those on equality alone. That equality is
-// transitive takes three clauses for each three constants of a sort, and few are needed: first those whose equalities are all named. The
-// clauses of the entry, which are mostly of invariants, are found by what they name, and chosen where they are searched (src/beside.rt).
+// transitive takes three clauses for each three constants of a sort, and few are needed: first those whose equalities are all named. They
+// are chosen where they are searched, and so are the clauses of the entry, which are mostly of invariants: these are found by what they
+// name (src/beside.rt).
 // An interpretation of these may make others false; they are searched too in the next round.
 use crate::Chosen;
 use crate::agreeing::value_of;
@@ -11,18 +12,19 @@ use crate::beside::{kept_beside, take};
 use crate::parts::{FEW_ATOMS, Part, count_named};
 use crate::testing::Picks;
 use clausify::KeptClauses;
-use ground_atoms::{Atom, Atoms, IntName};
+use ground_atoms::{Atom, Atoms, GroundFormula, IntName};
 use needed_clauses::parts::{NOWHERE, mark, no_places, number_of, place_of};
 use proof_lines::Lit;
 use std::alloc::{AllocError, Global};
 
-/// For each chosen clause, whether it is searched; which atoms the central ones name; and for each clause of the entry whether it was
-/// chosen, once some are.
+/// For each chosen clause, whether it is searched; which atoms the central ones name; for each clause of the entry whether it was chosen,
+/// once some are; and the same for each that says that equality is transitive.
 #[derive(Drop)]
 pub(crate) struct Picked {
     pub marks: Vec<bool>,
     pub named: Vec<u32>,
     pub kept: Vec<bool>,
+    pub transitive: Vec<bool>,
 }
 
 fn is_later_integer(atoms: &Atoms, number: u32) -> bool {
@@ -78,6 +80,36 @@ fn is_beside(atoms: &Atoms, places: &[u32], lits: &[Lit]) -> bool {
         }
     }
     !is_other
+}
+
+// Whether a formula says that two atoms imply a third one, and all three are marked.
+fn are_marked(places: &[u32], form: &GroundFormula) -> bool {
+    let GroundFormula::Implied(first, second, third) = form else {
+        return false;
+    };
+    place_of(places, *first) != NOWHERE
+        && place_of(places, *second) != NOWHERE
+        && place_of(places, *third) != NOWHERE
+}
+
+// Whether a formula says that two atoms imply a third one, and truth values of a part make that false.
+fn is_false(part: &Part, truths: &[bool], form: &GroundFormula) -> bool {
+    let GroundFormula::Implied(first, second, third) = form else {
+        return false;
+    };
+    value_of(part, truths, *first)
+        && value_of(part, truths, *second)
+        && !value_of(part, truths, *third)
+}
+
+// Takes all that weren't taken, and adds their numbers, of which this is the first.
+fn take_others(taken: &mut [bool], first: u32, numbers: &mut Vec<u32>) -> Result<(), AllocError> {
+    for place in 0..taken.len() {
+        if take(taken, place) {
+            numbers.push(first.saturating_add(number_of(place)))?;
+        }
+    }
+    Ok(())
 }
 
 // Marks the parts that a clause names: their clauses stand behind it.
@@ -139,6 +171,7 @@ impl Picked {
             marks,
             named,
             kept: Vec::new(alloc),
+            transitive: Vec::new(alloc),
         })
     }
 
@@ -150,10 +183,19 @@ impl Picked {
         false
     }
 
-    /// The clauses that are searched first.
-    pub fn first(alloc: Global, atoms: &Atoms, chosen: &Chosen) -> Result<Picked, AllocError> {
+    /// The clauses that are searched first. These formulas say that equality is transitive.
+    pub fn first(
+        alloc: Global,
+        atoms: &Atoms,
+        chosen: &Chosen,
+        transitive: &[GroundFormula],
+    ) -> Result<Picked, AllocError> {
         let mut places = no_places(alloc, count_named(chosen))?;
         let mut picked = Picked::central(alloc, atoms, chosen, places.as_mut_slice())?;
+        picked.transitive.reserve(transitive.len())?;
+        for form in transitive {
+            picked.transitive.push(are_marked(places.as_slice(), form))?;
+        }
         for (place, clause) in chosen.clauses.iter().enumerate() {
             if is_beside(atoms, places.as_slice(), clause.lits()) {
                 mark_parts(atoms, places.as_mut_slice(), clause.lits());
@@ -161,6 +203,37 @@ impl Picked {
             }
         }
         Ok(picked)
+    }
+
+    /// The numbers of the clauses that say that equality is transitive and are searched first, where the first of all these has this number.
+    pub fn first_transitive(&self, alloc: Global, first: u32) -> Result<Vec<u32>, AllocError> {
+        let mut numbers = Vec::new(alloc);
+        for (place, is_first) in self.transitive.iter().enumerate() {
+            if *is_first {
+                numbers.push(first.saturating_add(number_of(place)))?;
+            }
+        }
+        Ok(numbers)
+    }
+
+    /// Chooses of the clauses of these formulas, which say that equality is transitive, those that truth values of a part make false. It
+    /// adds their numbers, of which this is the first, and says whether there are any.
+    pub fn choose_transitive(
+        &mut self,
+        forms: &[GroundFormula],
+        first: u32,
+        part: &Part,
+        truths: &[bool],
+        numbers: &mut Vec<u32>,
+    ) -> Result<bool, AllocError> {
+        let mut some = false;
+        for (place, form) in forms.iter().enumerate() {
+            if is_false(part, truths, form) && take(self.transitive.as_mut_slice(), place) {
+                numbers.push(first.saturating_add(number_of(place)))?;
+                some = true;
+            }
+        }
+        Ok(some)
     }
 
     /// Chooses of the entry's clauses those that are searched first, and answers their places.
@@ -175,19 +248,18 @@ impl Picked {
         kept_beside(alloc, atoms, kept, named, self.kept.as_mut_slice())
     }
 
-    /// Chooses of the entry's clauses those that truth values of a part make false, and answers their places. `name` is the number of the
-    /// first atom that names a part.
+    /// Chooses of the entry's clauses those that truth values of a part make false, and adds their numbers. `name` is the number of the first
+    /// atom that names a part.
     pub fn choose_false(
         &mut self,
-        alloc: Global,
         kept: &KeptClauses,
         name: u32,
         part: &Part,
         truths: &[bool],
-    ) -> Result<Vec<u32>, AllocError> {
-        let mut found = Vec::new(alloc);
+        numbers: &mut Vec<u32>,
+    ) -> Result<(), AllocError> {
         if self.kept.is_empty() {
-            return Ok(found);
+            return Ok(());
         }
         let more = name.wrapping_sub(kept.first);
         for (place, clause) in kept.clauses.iter().enumerate() {
@@ -201,21 +273,19 @@ impl Picked {
             ) == lit.positive);
             if !is_true {
                 self.kept[place] = true;
-                found.push(number_of(place))?;
+                numbers.push(number_of(place))?;
             }
         }
-        Ok(found)
+        Ok(())
     }
 
-    /// Chooses all clauses of the entry, where some were chosen, and answers the places of those that weren't.
-    pub fn choose_others(&mut self, alloc: Global) -> Result<Vec<u32>, AllocError> {
-        let mut found = Vec::new(alloc);
-        for place in 0..self.kept.len() {
-            if take(self.kept.as_mut_slice(), place) {
-                found.push(number_of(place))?;
-            }
-        }
-        Ok(found)
+    /// Chooses all clauses of the entry, where some were chosen, and all that say that equality is transitive, of which this is the first
+    /// number. It answers the numbers of those that weren't chosen.
+    pub fn choose_others(&mut self, alloc: Global, first: u32) -> Result<Vec<u32>, AllocError> {
+        let mut numbers = Vec::new(alloc);
+        take_others(self.transitive.as_mut_slice(), first, &mut numbers)?;
+        take_others(self.kept.as_mut_slice(), 0, &mut numbers)?;
+        Ok(numbers)
     }
 
     /// Picks the clauses that truth values of a part make false. It says whether there are any.

@@ -1,5 +1,5 @@
 // Where the clauses of pairs of tuples stand.
-ghost use Rattle.std.specs.Prelude.{◌≡◌, ◌<◌, IfOk, IfSome};
+ghost use Rattle.std.specs.Prelude.{◌≡◌, ◌<◌, ◌+◌, IfOk, IfSome};
 ghost use Rattle.lazy_search.specs.Chosen.{IsMoved, AreMoved, pairs_among, pair_place};
 
 use lazy_ground::ReadingPairs;
@@ -12,11 +12,14 @@ pub struct Place {
     pub name: u32,
 }
 
-/// The first place of each relation's pairs, and the place behind all clauses of the problem.
+/// The first place of each relation's pairs, and the place behind all clauses of the problem. From a place on, the formulas in front of the
+/// pairs say that two atoms imply a third one, mostly that equality is transitive; and where their first clause stands.
 #[derive(Drop)]
 pub struct Layout {
     pub firsts: Vec<Place>,
     pub behind: Place,
+    pub transitive: Place,
+    pub from: usize,
 }
 
 // How many pairs so many tuples have, where numbers reach that.
@@ -38,6 +41,21 @@ fn moved(first: Place, pairs: u32) -> Option<Place>
     let clause = first.clause.checked_add(clauses)?;
     let name = first.name.checked_add(pairs)?;
     Some(Place { clause, name })
+}
+
+// The place behind so many clauses that name no part, where numbers reach it.
+pub(crate) fn behind_single(first: Place, many: usize) -> Option<Place>
+    ensures clause { IfSome result (λ at. at.clause ≡ first.clause + many) }
+    ensures name { IfSome result (λ at. at.name ≡ first.name) }
+{
+    let Ok(more) = u32::try_from(many) else {
+        return None;
+    };
+    let clause = first.clause.checked_add(more)?;
+    Some(Place {
+        clause,
+        name: first.name,
+    })
 }
 
 // The place behind the pairs of so many tuples, where numbers reach it.

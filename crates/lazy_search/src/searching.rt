@@ -10,6 +10,7 @@ ghost use Rattle.lazy_search.specs.Refuting.{AreOf, IsMeasured, IsLazyAnswer, Is
 ghost use Rattle.lazy_search.specs.Refuting.{IsLazyAnswerTo, IsStepTo};
 
 use crate::agreeing::{PairAt, disagreeing};
+use crate::choosing::forms_behind;
 use crate::counting::{count_atoms, sizes_of};
 use crate::measured::Measured;
 use crate::parts::{Part, part_of};
@@ -48,12 +49,12 @@ pub enum LazyAnswer {
     Unknown,
 }
 
-/// Clauses that an interpretation of those that were searched makes false: whether there are chosen ones, which are picked now; the places
-/// of the entry's; and pairs that have some.
+/// Clauses that an interpretation of those that were searched makes false: whether there are chosen ones, which are picked now; the numbers
+/// of the entry's, and of those that say that equality is transitive; and pairs that have some.
 #[derive(Drop)]
 pub struct MoreClauses {
     pub is_picking: bool,
-    pub places: Vec<u32>,
+    pub numbers: Vec<u32>,
     pub pairs: Vec<PairAt>,
 }
 
@@ -100,22 +101,26 @@ fn judge_log(
     Ok(Step::Answered(LazyAnswer::Refuted(lines)))
 }
 
-// The places of the entry's clauses that truth values of a part make false; they are chosen now.
-fn false_kept(
-    alloc: Global,
+// Chooses of the entry's clauses and of those that say that equality is transitive such as truth values of a part make false, and adds
+// their numbers. It says whether there are any of the latter.
+fn choose_false(
     measured: &Measured<'_>,
     picked: &mut Picked,
     part: &Part,
     truths: &[bool],
-) -> Result<Vec<u32>, AllocError> {
-    match kept_clauses(&measured.ground.part) {
-        Some((kept, _)) => picked.choose_false(alloc, kept, measured.sizes.first, part, truths),
-        None => Ok(Vec::new(alloc)),
+    numbers: &mut Vec<u32>,
+) -> Result<bool, AllocError> {
+    let forms = forms_behind(measured.ground.front.as_slice(), measured.layout.from);
+    let first = measured.layout.transitive.clause;
+    let some = picked.choose_transitive(forms, first, part, truths, numbers)?;
+    if let Some((kept, _)) = kept_clauses(&measured.ground.part) {
+        picked.choose_false(kept, measured.sizes.first, part, truths, numbers)?;
     }
+    Ok(some)
 }
 
-// What truth values of a part come to. Where they make a chosen clause false, no pairs are looked for: equality may not be transitive yet,
-// and then it makes tuples equal that aren't.
+// What truth values of a part come to. Where they make a chosen clause false, or equality isn't transitive by them, no pairs are looked for:
+// tuples may seem equal then that aren't.
 fn judge_found(
     alloc: Global,
     measured: &Measured<'_>,
@@ -128,20 +133,22 @@ fn judge_found(
         → IsStep d ob measured.now.ground.now budget step) }
 {
     let is_picking = picked.pick_false(chosen, part, truths);
-    let places = false_kept(alloc, measured, picked, part, truths)?;
-    let pairs = if is_picking {
+    let mut numbers = Vec::new(alloc);
+    let some = or_drop!(choose_false(measured, picked, part, truths, &mut numbers); numbers);
+    let is_open = is_picking || some;
+    let pairs = if is_open {
         Vec::new(alloc)
     } else {
-        or_drop!(disagreeing(alloc, measured.ground, part, truths); places)
+        or_drop!(disagreeing(alloc, measured.ground, part, truths); numbers)
     };
-    if !is_picking && places.is_empty() && pairs.is_empty() {
-        drop(places);
+    if !is_open && numbers.is_empty() && pairs.is_empty() {
+        drop(numbers);
         drop(pairs);
         return Ok(Step::Answered(LazyAnswer::Satisfiable));
     }
     Ok(Step::MoreClauses(MoreClauses {
         is_picking,
-        places,
+        numbers,
         pairs,
     }))
 }
@@ -203,20 +210,21 @@ fn add_pairs(
     Ok(some)
 }
 
-// Adds the entry's clauses at these places. It says whether it added any.
-fn add_kept(
+// Adds the clauses with these numbers, of the entry's and of those that say that equality is transitive. It says whether it added any.
+fn add_numbered(
     alloc: Global,
     measured: &Measured<'_>,
     chosen: &mut Chosen,
-    places: &[u32],
+    numbers: &[u32],
 ) -> Result<bool, AllocError>
     requires measured { IsMeasured measured.now }
     requires chosen { AreOf measured.now.ground.now chosen.now }
     ensures { OnOk result (AreOf measured.now.ground.now chosen.new) }
 {
+    let (ground, sizes, layout) = (measured.ground, measured.sizes, measured.layout);
     let mut some = false;
-    for place in places {
-        if chosen.add_kept(alloc, measured.ground, measured.sizes.first, *place)? {
+    for number in numbers {
+        if chosen.add_numbered(alloc, ground, sizes, layout, *number)? {
             some = true;
         }
     }
@@ -234,9 +242,9 @@ fn add_more(
     requires chosen { AreOf measured.now.ground.now chosen.now }
     ensures { OnOk result (AreOf measured.now.ground.now chosen.new) }
 {
-    let has_kept = add_kept(alloc, measured, chosen, more.places.as_slice())?;
+    let has_numbered = add_numbered(alloc, measured, chosen, more.numbers.as_slice())?;
     let has_pairs = add_pairs(alloc, measured, chosen, more.pairs.as_slice())?;
-    Ok(more.is_picking || has_kept || has_pairs)
+    Ok(more.is_picking || has_numbered || has_pairs)
 }
 
 // Picks the clauses for the next round: the new ones, and after some rounds all.
@@ -254,8 +262,8 @@ fn pick_next(
     if round < PICKY_ROUNDS {
         return picked.pick_new(chosen.clauses.len());
     }
-    let places = picked.choose_others(alloc)?;
-    add_kept(alloc, measured, chosen, places.as_slice())?;
+    let numbers = picked.choose_others(alloc, measured.layout.transitive.clause)?;
+    add_numbered(alloc, measured, chosen, numbers.as_slice())?;
     picked.pick_all(chosen.clauses.len())
 }
 
@@ -319,6 +327,24 @@ fn is_first_without_entry(ground: &LazyGround) -> bool {
     }
 }
 
+// Adds the clauses with these numbers, and picks them.
+fn add_picked(
+    alloc: Global,
+    measured: &Measured<'_>,
+    chosen: &mut Chosen,
+    picked: &mut Picked,
+    numbers: Vec<u32>,
+) -> Result<(), AllocError>
+    requires measured { IsMeasured measured.now }
+    requires chosen { AreOf measured.now.ground.now chosen.now }
+    ensures { OnOk result (AreOf measured.now.ground.now chosen.new) }
+{
+    let added = add_numbered(alloc, measured, chosen, numbers.as_slice());
+    drop(numbers);
+    added?;
+    picked.pick_new(chosen.clauses.len())
+}
+
 // Adds of the entry's clauses those that are searched first.
 fn add_entry(
     alloc: Global,
@@ -333,9 +359,8 @@ fn add_entry(
     let Some((kept, _)) = kept_clauses(&measured.ground.part) else {
         return Ok(());
     };
-    let places = picked.choose_kept(alloc, &measured.ground.atoms, kept)?;
-    add_kept(alloc, measured, chosen, places.as_slice())?;
-    picked.pick_new(chosen.clauses.len())
+    let numbers = picked.choose_kept(alloc, &measured.ground.atoms, kept)?;
+    add_picked(alloc, measured, chosen, picked, numbers)
 }
 
 // A search of some clauses in front and behind, and of more as they are needed; where a search without the entry's comes first, these join
@@ -351,7 +376,11 @@ fn search_chosen(
     requires chosen { AreOf measured.now.ground.now chosen.now }
     ensures { IfOk result (λ answer. IsLazyAnswerTo aim.now measured.now.ground.now answer) }
 {
-    let mut picked = Picked::first(alloc, &measured.ground.atoms, chosen)?;
+    let forms = forms_behind(measured.ground.front.as_slice(), measured.layout.from);
+    let first = measured.layout.transitive.clause;
+    let mut picked = Picked::first(alloc, &measured.ground.atoms, chosen, forms)?;
+    let numbers = or_drop!(picked.first_transitive(alloc, first); picked);
+    or_drop!(add_picked(alloc, measured, chosen, &mut picked, numbers); picked);
     if is_first_without_entry(measured.ground) {
         match rounds(alloc, measured, chosen, &mut picked, aim)? {
             LazyAnswer::Refuted(log) => return Ok(LazyAnswer::Refuted(log)),
