@@ -16,9 +16,14 @@ if TYPE_CHECKING:
 
 # What checks/pack leaves beside the program: lines `KEY: TEXT`, with the commit.
 PACKED = "prebuilt/packed"
-# The record in the one file, with its sums as bytes, which takes a quarter less.
+# The record in the one file, with its sums as bytes, and of each path what differs from the one
+# before.
 FOLDED = f"{KEPT_RECORD}.folded"
 SUM_BYTES = 32
+# The byte of a path that shares nothing, behind the signs that begin or end a line; and how many
+# bytes of a path are shared at most.
+NONE_SHARED = 40
+MOST_SHARED = 200
 NO_SOURCES = (
     "there are no sources here to be proved: they stand in the repository, whose ./cise prove"
     " proves them"
@@ -93,12 +98,15 @@ def record_text() -> bytes:
 
 
 def folded(text: bytes) -> bytes:
-    """A record whose sums stand as bytes behind its lines, which begin with two blanks instead."""
-    lines, sums = [], b""
+    """A record whose sums stand as bytes behind its lines. A line that had one begins with a byte
+    that tells how many bytes it shares with the one before, and has the others."""
+    lines, sums, last = [], b"", b""
     for line in text.split(b"\n"):
         if line and not line.startswith(b"#"):
             sums += bytes.fromhex(line[: 2 * SUM_BYTES].decode())
-            line = line[2 * SUM_BYTES :]
+            path = line[2 * SUM_BYTES :]
+            shared = min(len(os.path.commonprefix([last, path])), MOST_SHARED)
+            line, last = bytes([NONE_SHARED + shared]) + path[shared:], path
         lines.append(line)
     return b"\n".join(lines) + b"\0" + sums
 
@@ -106,10 +114,11 @@ def folded(text: bytes) -> bytes:
 def unfolded(data: bytes) -> bytes:
     """The record of which this is the folded form."""
     text, _, sums = data.partition(b"\0")
-    lines, at = text.split(b"\n"), 0
+    lines, at, last = text.split(b"\n"), 0, b""
     for place, line in enumerate(lines):
-        if line.startswith(b"  "):
-            lines[place] = sums[at : at + SUM_BYTES].hex().encode() + line
+        if line and not line.startswith(b"#"):
+            last = last[: line[0] - NONE_SHARED] + line[1:]
+            lines[place] = sums[at : at + SUM_BYTES].hex().encode() + last
             at += SUM_BYTES
     return b"\n".join(lines)
 
