@@ -1,6 +1,6 @@
 // Drafts with a change: facts left out, two elements made one, other numbers.
 
-use crate::draft::{Draft, Fact, copies, draft_of, is_number, push_fact};
+use crate::draft::{Draft, Fact, Number, Place, changed, copies, draft_of, is_number, push_fact};
 use items::{Items, or_drop};
 use obligation_list::Obligation;
 use spec_core::{Call, Kind, Param, Spec, Thing};
@@ -47,8 +47,8 @@ pub fn names(spec: &Spec, fact: &Fact, element: Element) -> bool {
 }
 
 impl Left {
-    // Whether a fact at a place of the list is left out.
-    fn leaves_out(self, spec: &Spec, place: usize, fact: &Fact) -> bool {
+    /// Whether a fact at a place of the list is left out.
+    pub fn leaves_out(self, spec: &Spec, place: usize, fact: &Fact) -> bool {
         match self {
             Left::None => false,
             Left::All => true,
@@ -59,7 +59,8 @@ impl Left {
     }
 }
 
-fn facts_without(
+/// The facts that aren't left out.
+pub fn facts_without(
     alloc: Global,
     spec: &Spec,
     facts: &[Fact],
@@ -90,13 +91,6 @@ fn draft_with(
         facts,
         calls,
     )
-}
-
-/// A draft with facts left out.
-pub fn without(alloc: Global, spec: &Spec, draft: &Draft, left: Left) -> Result<Draft, AllocError> {
-    let facts = facts_without(alloc, spec, draft.facts.as_slice(), left)?;
-    let calls = or_drop!(copies(alloc, draft.calls.as_slice()); facts);
-    draft_with(alloc, draft, facts, calls)
 }
 
 fn facts_moved(
@@ -362,20 +356,6 @@ pub fn made_one(
 
 // ---- other numbers
 
-/// Where a number stands: an argument of a call, by the number of the call and its own place, or the value of a fact.
-#[derive(Clone, Copy, PartialEq, Eq)]
-pub enum Place {
-    Argument(usize, usize),
-    Value(usize),
-}
-
-/// A number at a place.
-#[derive(Clone, Copy)]
-pub struct Number {
-    pub place: Place,
-    pub value: i64,
-}
-
 /// The number at a place; none where no whole number stands there, or it is 0.
 pub fn number_at(spec: &Spec, draft: &Draft, place: Place) -> Option<Number> {
     let value = match place {
@@ -398,16 +378,6 @@ pub fn number_at(spec: &Spec, draft: &Draft, place: Place) -> Option<Number> {
         return None;
     }
     Some(Number { place, value })
-}
-
-// The value at a place after changes, where it was this.
-fn changed(changes: &[Number], place: Place, value: i64) -> i64 {
-    for change in changes {
-        if change.place == place {
-            return change.value;
-        }
-    }
-    value
 }
 
 fn facts_changed(
@@ -450,7 +420,8 @@ fn push_call_changed(
     calls.push(Call { op: call.op, args })
 }
 
-fn calls_changed(
+/// Calls with other arguments.
+pub fn calls_changed(
     alloc: Global,
     calls: &[Call],
     changes: &[Number],

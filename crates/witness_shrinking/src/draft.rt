@@ -2,7 +2,8 @@
 //
 // What is false or 0 in the state isn't listed, so what is left out of a list is taken away. A draft needn't fit: whether its values
 // are a witness at all, `witness` and `breaks` say.
-ghost use Rattle.std.specs.Prelude.{◌≡◌, ◌≤◌, length};
+ghost use Rattle.std.specs.Prelude.{◌≡◌, ◌≤◌, length, IfOk, IfSome};
+ghost use Rattle.witness_shrinking.specs.Refuted.{HasLists};
 
 use items::{Items, or_drop};
 use obligation_list::Witness;
@@ -153,8 +154,8 @@ pub fn draft_of(
 
 // ---- the witness of a draft
 
-// Puts a fact into a state; nothing where its relation, its counter or its value is none.
-fn put_fact(spec: &Spec, state: &mut State, fact: &Fact) -> Result<(), AllocError>
+/// Puts a fact into a state, with this value; with 0 it is taken out. Nothing where its relation, its counter or the value is none.
+pub fn put_fact(spec: &Spec, state: &mut State, fact: &Fact, value: i64) -> Result<(), AllocError>
     requires relations { length spec.now.relations ≤ length state.old.relations }
     requires counters { length spec.now.counters ≤ length state.old.counters }
     ensures relations { length state.new.relations ≡ length state.old.relations }
@@ -163,12 +164,12 @@ fn put_fact(spec: &Spec, state: &mut State, fact: &Fact) -> Result<(), AllocErro
     match fact.thing {
         Thing::Relation(k) => {
             if (k as usize) < spec.relations.len() {
-                state.set_has(k, fact.elements.as_slice(), true)?;
+                state.set_has(k, fact.elements.as_slice(), value != 0)?;
             }
         }
         Thing::Counter(k) => {
-            if (k as usize) < spec.counters.len() && is_in_state_range(fact.value) {
-                state.set_count(k, fact.elements.as_slice(), fact.value)?;
+            if (k as usize) < spec.counters.len() && is_in_state_range(value) {
+                state.set_count(k, fact.elements.as_slice(), value)?;
             }
         }
     }
@@ -178,9 +179,11 @@ fn put_fact(spec: &Spec, state: &mut State, fact: &Fact) -> Result<(), AllocErro
 fn put_facts(spec: &Spec, state: &mut State, facts: &[Fact]) -> Result<(), AllocError>
     requires relations { length spec.now.relations ≤ length state.old.relations }
     requires counters { length spec.now.counters ≤ length state.old.counters }
+    ensures relations { length state.new.relations ≡ length state.old.relations }
+    ensures counters { length state.new.counters ≡ length state.old.counters }
 {
     for fact in facts {
-        put_fact(spec, state, fact)?;
+        put_fact(spec, state, fact, fact.value)?;
     }
     Ok(())
 }
@@ -191,13 +194,39 @@ fn state_of(
     spec: &Spec,
     world: &World,
     facts: &[Fact],
-) -> Result<Option<State>, AllocError> {
+) -> Result<Option<State>, AllocError>
+    ensures { IfOk result (λ made. IfSome made (HasLists spec.now)) }
+{
     if !world.fits(spec) {
         return Ok(None);
     }
     let mut state = State::empty(alloc, spec, world)?;
     or_drop!(put_facts(spec, &mut state, facts); state);
     Ok(Some(state))
+}
+
+/// Where a number stands: an argument of a call, by the number of the call and its own place, or the value of a fact.
+#[derive(Clone, Copy, PartialEq, Eq)]
+pub enum Place {
+    Argument(usize, usize),
+    Value(usize),
+}
+
+/// A number at a place.
+#[derive(Clone, Copy)]
+pub struct Number {
+    pub place: Place,
+    pub value: i64,
+}
+
+/// The value at a place after changes, where it was this.
+pub fn changed(changes: &[Number], place: Place, value: i64) -> i64 {
+    for change in changes {
+        if change.place == place {
+            return change.value;
+        }
+    }
+    value
 }
 
 /// How large a witness is. Of two, the first of these numbers that differs says which is smaller.
@@ -213,6 +242,13 @@ pub struct Size {
     pub total: u64,
 }
 
+const NOTHING: Size = Size {
+    elements: 0,
+    facts: 0,
+    negatives: 0,
+    total: 0,
+};
+
 impl Size {
     /// Whether this is smaller.
     pub fn is_below(self, other: Size) -> bool {
@@ -226,6 +262,17 @@ impl Size {
             return self.negatives < other.negatives;
         }
         self.total < other.total
+    }
+
+    // With a number more, and the fact whose value it is.
+    fn with_number(self, place: Place, value: i64) -> Size {
+        let is_fact = match place {
+            Place::Argument(_, _) => false,
+            Place::Value(_) => value != 0,
+        };
+        let mut size = self.with(value);
+        size.facts = size.facts.saturating_add(is_fact as usize);
+        size
     }
 
     // With a number more.
@@ -304,7 +351,9 @@ impl Draft {
     }
 
     /// The witness of a draft; none where its world is none.
-    pub fn witness(&self, alloc: Global, spec: &Spec) -> Result<Option<Witness>, AllocError> {
+    pub fn witness(&self, alloc: Global, spec: &Spec) -> Result<Option<Witness>, AllocError>
+        ensures { IfOk result (λ made. IfSome made (λ witness. HasLists spec.now witness.state)) }
+    {
         let world = self.world(alloc)?;
         let elements = or_drop!(Items::from_slice(alloc, self.elements.as_slice()); world);
         let calls = or_drop!(copies(alloc, self.calls.as_slice()); world, elements);
@@ -352,5 +401,30 @@ impl Draft {
             size = with_arguments(spec, call, size);
         }
         size
+    }
+
+    // The number at a place; 0 where there is none.
+    fn value_at(&self, place: Place) -> i64 {
+        match place {
+            Place::Argument(call, at) => match self.calls.as_slice().get(call) {
+                Some(call) => call.args.as_slice().get(at).copied().unwrap_or(0),
+                None => 0,
+            },
+            Place::Value(at) => match self.facts.as_slice().get(at) {
+                Some(fact) => fact.value,
+                None => 0,
+            },
+        }
+    }
+
+    /// Whether it is smaller with other numbers. What they add to its size is compared; a value of 0 is no fact.
+    pub fn is_smaller_with(&self, changes: &[Number]) -> bool {
+        let mut before = NOTHING;
+        let mut behind = NOTHING;
+        for change in changes {
+            before = before.with_number(change.place, self.value_at(change.place));
+            behind = behind.with_number(change.place, change.value);
+        }
+        behind.is_below(before)
     }
 }

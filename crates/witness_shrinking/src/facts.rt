@@ -1,16 +1,11 @@
 // Fewer facts: all of them, those of a relation or a counter, those that name an element, one, or two are left out.
 
-use crate::changes::{Element, Left, without};
+use crate::changes::{Element, Left};
 use crate::refutation::Refutation;
 use spec_core::Thing;
 use std::alloc::AllocError;
 
 impl Refutation<'_> {
-    fn leaves_out(&mut self, left: Left) -> Result<bool, AllocError> {
-        let candidate = without(self.alloc, self.spec, &self.draft, left)?;
-        self.tries(candidate)
-    }
-
     // Leaves out all facts of a relation or a counter.
     fn without_things(&mut self) -> Result<bool, AllocError> {
         let spec = self.spec;

@@ -1,6 +1,7 @@
 // Lesser numbers: a value or an argument comes nearer to 0, alone or with another one.
 
-use crate::changes::{Number, Place, number_at, with_number_alone, with_numbers};
+use crate::changes::{number_at, with_number_alone};
+use crate::draft::{Number, Place};
 use crate::refutation::Refutation;
 use items::Items;
 use std::alloc::AllocError;
@@ -36,11 +37,6 @@ fn size_of(number: Number) -> i64 {
 }
 
 impl Refutation<'_> {
-    fn sets(&mut self, changes: &[Number]) -> Result<bool, AllocError> {
-        let candidate = with_numbers(self.alloc, &self.draft, changes)?;
-        self.tries(candidate)
-    }
-
     fn sets_one(&mut self, place: Place, value: i64) -> Result<bool, AllocError> {
         self.sets(&[Number { place, value }])
     }

@@ -4,8 +4,9 @@ ghost use Rattle.witness_shrinking.specs.Refuted.{IsRefutedBy};
 
 use crate::changes::{has, with_thing};
 use crate::draft::Draft;
+use crate::reading::{bit_of, bits_of_invariants};
 use crate::refutation::Refutation;
-use items::or_drop;
+use items::{Items, or_drop};
 use obligation_list::{Obligation, Witness, breaks};
 use spec_core::{Spec, Thing};
 use std::alloc::{AllocError, Global};
@@ -60,11 +61,20 @@ impl Refutation<'_> {
         Ok(())
     }
 
+    // The bit of what a fact is of.
+    fn bit_at(&self, at: usize) -> u32 {
+        match self.draft.facts.get(at) {
+            Some(fact) => bit_of(fact.thing),
+            None => 0,
+        }
+    }
+
     // Says of a fact that it is one of another relation or counter, and goes on from there; keeps that where it is smaller.
     fn detours_by(&mut self, at: usize, thing: Thing) -> Result<bool, AllocError> {
         let candidate = with_thing(self.alloc, &self.draft, at, thing)?;
         self.left = self.left.saturating_sub(1);
-        let Some(mut other) = self.with(candidate)? else {
+        let touched = bit_of(thing) | self.bit_at(at);
+        let Some(mut other) = self.with(candidate, touched)? else {
             return Ok(false);
         };
         or_drop!(other.shrinks_behind(); other);
@@ -119,6 +129,12 @@ impl Refutation<'_> {
         }
     }
 
+    // The values behind all steps; none where their world is none.
+    fn shrunk(&mut self) -> Result<Option<Witness>, AllocError> {
+        self.shrinks()?;
+        self.draft.witness(self.alloc, self.spec)
+    }
+
     // Takes the kinds of steps in turn until none of them changes anything.
     fn shrinks(&mut self) -> Result<(), AllocError> {
         let mut calm = 0u32;
@@ -134,6 +150,14 @@ impl Refutation<'_> {
             }
         }
         Ok(())
+    }
+}
+
+// What each invariant reads, as bits; nothing for an initial state, in which one of them is false.
+fn bits_read(alloc: Global, spec: &Spec, ob: &Obligation) -> Result<Items<u32>, AllocError> {
+    match ob {
+        Obligation::Init { inv: _ } => Ok(Items::new(alloc)),
+        _ => bits_of_invariants(alloc, spec),
     }
 }
 
@@ -154,11 +178,7 @@ pub fn shrink(
         drop(draft);
         return Ok(());
     };
-    if !breaks(spec, ob, &first) {
-        drop(first);
-        drop(draft);
-        return Ok(());
-    }
+    let read = or_drop!(bits_read(alloc, spec, ob); first, draft);
     let mut refutation = Refutation {
         alloc,
         spec,
@@ -166,14 +186,15 @@ pub fn shrink(
         witness: first,
         draft,
         left: MOST_TRIES,
+        read: read.as_slice(),
     };
-    or_drop!(refutation.shrinks(); refutation);
-    let Refutation {
-        witness: smaller,
-        draft,
-        ..
-    } = refutation;
-    drop(draft);
+    let made = refutation.shrunk();
+    drop(refutation);
+    drop(read);
+    let made = made?;
+    let Some(smaller) = made else {
+        return Ok(());
+    };
     if breaks(spec, ob, &smaller) {
         *witness = smaller;
     } else {

@@ -7,3 +7,12 @@ put_facts-requires-clause-relations c = (let e = relations_many c.args.spec.now 
 
 pub put_facts-requires-clause-counters : goal.put_facts-requires-clause-counters
 put_facts-requires-clause-counters c = (let e = counters_many c.args.spec.now c.args.world.now _ c.in_ok-state.ensures.fits in omega (arith, e))
+
+pub returns-2 : goal.returns-2
+returns-2 c =
+    let relations = relations_many c.args.spec.now c.args.world.now _ c.in_ok-state.ensures.fits in
+    let counters = counters_many c.args.spec.now c.args.world.now _ c.in_ok-state.ensures.fits in
+    record {
+      relations = omega (arith, relations, c.put_facts.ensures.relations);
+      counters = omega (arith, counters, c.put_facts.ensures.counters);
+    }
