@@ -59,23 +59,6 @@ impl Left {
     }
 }
 
-/// The facts that aren't left out.
-pub fn facts_without(
-    alloc: Global,
-    spec: &Spec,
-    facts: &[Fact],
-    left: Left,
-) -> Result<Items<Fact>, AllocError> {
-    let mut out = Items::new(alloc);
-    for (place, fact) in facts.iter().enumerate() {
-        if !left.leaves_out(spec, place, fact) {
-            let elements = fact.elements.as_slice();
-            or_drop!(push_fact(alloc, fact.thing, elements, fact.value, &mut out); out);
-        }
-    }
-    Ok(out)
-}
-
 // A draft with other facts and calls.
 fn draft_with(
     alloc: Global,
@@ -380,14 +363,33 @@ pub fn number_at(spec: &Spec, draft: &Draft, place: Place) -> Option<Number> {
     Some(Number { place, value })
 }
 
+/// A change of facts and numbers: which facts are left out, and which numbers are others.
+#[derive(Clone, Copy)]
+pub struct Change<'a> {
+    pub left: Left,
+    pub numbers: &'a [Number],
+}
+
+impl Change<'_> {
+    /// The value of a fact at a place of the list; 0 where it is left out.
+    pub fn value(self, spec: &Spec, place: usize, fact: &Fact) -> i64 {
+        if self.left.leaves_out(spec, place, fact) {
+            0
+        } else {
+            changed(self.numbers, Place::Value(place), fact.value)
+        }
+    }
+}
+
 fn facts_changed(
     alloc: Global,
+    spec: &Spec,
     facts: &[Fact],
-    changes: &[Number],
+    change: Change<'_>,
 ) -> Result<Items<Fact>, AllocError> {
     let mut out = Items::new(alloc);
     for (place, fact) in facts.iter().enumerate() {
-        let value = changed(changes, Place::Value(place), fact.value);
+        let value = change.value(spec, place, fact);
         if value != 0 {
             let elements = fact.elements.as_slice();
             or_drop!(push_fact(alloc, fact.thing, elements, value, &mut out); out);
@@ -433,19 +435,14 @@ pub fn calls_changed(
     Ok(out)
 }
 
-/// A draft with other numbers. A value of 0 is left out.
-pub fn with_numbers(alloc: Global, draft: &Draft, changes: &[Number]) -> Result<Draft, AllocError> {
-    let facts = facts_changed(alloc, draft.facts.as_slice(), changes)?;
-    let calls = or_drop!(calls_changed(alloc, draft.calls.as_slice(), changes); facts);
-    draft_with(alloc, draft, facts, calls)
-}
-
-/// A draft with another number and no facts.
-pub fn with_number_alone(
+/// A draft with a change. A fact whose value is 0 is left out.
+pub fn with_change(
     alloc: Global,
+    spec: &Spec,
     draft: &Draft,
-    change: Number,
+    change: Change<'_>,
 ) -> Result<Draft, AllocError> {
-    let calls = calls_changed(alloc, draft.calls.as_slice(), &[change])?;
-    draft_with(alloc, draft, Items::new(alloc), calls)
+    let facts = facts_changed(alloc, spec, draft.facts.as_slice(), change)?;
+    let calls = or_drop!(calls_changed(alloc, draft.calls.as_slice(), change.numbers); facts);
+    draft_with(alloc, draft, facts, calls)
 }

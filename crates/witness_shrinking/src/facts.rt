@@ -1,11 +1,15 @@
 // Fewer facts: all of them, those of a relation or a counter, those that name an element, one, or two are left out.
 
-use crate::changes::{Element, Left};
+use crate::changes::{Change, Element, Left};
 use crate::refutation::Refutation;
 use spec_core::Thing;
 use std::alloc::AllocError;
 
 impl Refutation<'_> {
+    fn leaves_out(&mut self, left: Left) -> Result<bool, AllocError> {
+        self.changes(Change { left, numbers: &[] })
+    }
+
     // Leaves out all facts of a relation or a counter.
     fn without_things(&mut self) -> Result<bool, AllocError> {
         let spec = self.spec;

@@ -1,6 +1,6 @@
 // Lesser numbers: a value or an argument comes nearer to 0, alone or with another one.
 
-use crate::changes::{number_at, with_number_alone};
+use crate::changes::{Change, Left, number_at};
 use crate::draft::{Number, Place};
 use crate::refutation::Refutation;
 use items::Items;
@@ -37,6 +37,11 @@ fn size_of(number: Number) -> i64 {
 }
 
 impl Refutation<'_> {
+    fn sets(&mut self, numbers: &[Number]) -> Result<bool, AllocError> {
+        let left = Left::None;
+        self.changes(Change { left, numbers })
+    }
+
     fn sets_one(&mut self, place: Place, value: i64) -> Result<bool, AllocError> {
         self.sets(&[Number { place, value }])
     }
@@ -240,8 +245,11 @@ impl Refutation<'_> {
     }
 
     fn alone(&mut self, place: Place, value: i64) -> Result<bool, AllocError> {
-        let candidate = with_number_alone(self.alloc, &self.draft, Number { place, value })?;
-        self.tries(candidate)
+        let numbers = &[Number { place, value }];
+        self.changes(Change {
+            left: Left::All,
+            numbers,
+        })
     }
 
     // Leaves out all facts where an argument is 0 or 1.

@@ -5,7 +5,7 @@
 
 ghost use Rattle.std.specs.Prelude.{◌≡◌, ◌≤◌, length};
 
-use crate::changes::{Left, calls_changed, facts_without, with_numbers};
+use crate::changes::{Change, Left, calls_changed, with_change};
 use crate::draft::{Draft, Fact, Number, Place, put_fact};
 use crate::reading::{bit_of, may_serve};
 use items::or_drop;
@@ -40,12 +40,12 @@ impl<'a> Model for Refutation<'a> {
     ghost invariant = { λ a. IsShrinking a.spec.now a.ob.now a.witness };
 }
 
-// Takes facts out of a state, or puts them back into it.
-fn put_left(
+// Makes a change to the facts of a state, or takes it back.
+fn put_change(
     spec: &Spec,
     state: &mut State,
     facts: &[Fact],
-    left: Left,
+    change: Change<'_>,
     is_back: bool,
 ) -> Result<(), AllocError>
     requires relations { length spec.now.relations ≤ length state.old.relations }
@@ -54,76 +54,40 @@ fn put_left(
     ensures counters { length state.new.counters ≡ length state.old.counters }
 {
     for (place, fact) in facts.iter().enumerate() {
-        if left.leaves_out(spec, place, fact) {
-            put_fact(spec, state, fact, if is_back { fact.value } else { 0 })?;
+        let value = change.value(spec, place, fact);
+        if value != fact.value {
+            put_fact(spec, state, fact, if is_back { fact.value } else { value })?;
         }
     }
     Ok(())
 }
 
-// Gives the facts of a state at these places other values, or those back that they had.
-fn put_values(
-    spec: &Spec,
-    state: &mut State,
-    facts: &[Fact],
-    changes: &[Number],
-    is_back: bool,
-) -> Result<(), AllocError>
-    requires relations { length spec.now.relations ≤ length state.old.relations }
-    requires counters { length spec.now.counters ≤ length state.old.counters }
-    ensures relations { length state.new.relations ≡ length state.old.relations }
-    ensures counters { length state.new.counters ≡ length state.old.counters }
-{
-    for change in changes {
-        let Place::Value(at) = change.place else {
-            continue;
-        };
-        if let Some(fact) = facts.get(at) {
-            put_fact(
-                spec,
-                state,
-                fact,
-                if is_back { fact.value } else { change.value },
-            )?;
-        }
-    }
-    Ok(())
-}
-
-// The bits of the facts that are left out.
-fn bits_left(spec: &Spec, facts: &[Fact], left: Left) -> u32 {
+// The bits of the facts that a change gives other values.
+fn bits_changed(spec: &Spec, facts: &[Fact], change: Change<'_>) -> u32 {
     let mut bits = 0;
     for (place, fact) in facts.iter().enumerate() {
-        if left.leaves_out(spec, place, fact) {
+        if change.value(spec, place, fact) != fact.value {
             bits |= bit_of(fact.thing);
         }
     }
     bits
 }
 
-fn is_value(place: Place) -> bool {
+// Whether any of these facts is left out.
+fn leaves_any(spec: &Spec, facts: &[Fact], left: Left) -> bool {
+    for (place, fact) in facts.iter().enumerate() {
+        if left.leaves_out(spec, place, fact) {
+            return true;
+        }
+    }
+    false
+}
+
+fn is_argument(place: Place) -> bool {
     match place {
-        Place::Argument(_, _) => false,
-        Place::Value(_) => true,
+        Place::Argument(_, _) => true,
+        Place::Value(_) => false,
     }
-}
-
-// The bits of the facts that get other values.
-fn bits_changed(facts: &[Fact], changes: &[Number]) -> u32 {
-    let mut bits = 0;
-    for change in changes {
-        let Place::Value(at) = change.place else {
-            continue;
-        };
-        if let Some(fact) = facts.get(at) {
-            bits |= bit_of(fact.thing);
-        }
-    }
-    bits
-}
-
-fn are_in_range(changes: &[Number]) -> bool {
-    changes.iter().all(|change| is_in_state_range(change.value))
 }
 
 impl<'a> Refutation<'a> {
@@ -177,65 +141,51 @@ impl<'a> Refutation<'a> {
         Ok(true)
     }
 
-    // Takes facts out of the values, or puts them back.
-    fn puts_left(&mut self, left: Left, is_back: bool) -> Result<(), AllocError> {
-        let facts = self.draft.facts.as_slice();
-        put_left(self.spec, &mut self.witness.state, facts, left, is_back)
-    }
-
-    /// Tries the values without some facts.
-    pub fn leaves_out(&mut self, left: Left) -> Result<bool, AllocError> {
-        let touched = bits_left(self.spec, self.draft.facts.as_slice(), left);
-        if self.left == 0 || touched == 0 {
-            return Ok(false);
-        }
-        self.left = self.left.saturating_sub(1);
-        self.puts_left(left, false)?;
-        if !self.serves(touched) {
-            self.puts_left(left, true)?;
-            return Ok(false);
-        }
-        let facts = facts_without(self.alloc, self.spec, self.draft.facts.as_slice(), left)?;
-        let before = replace(&mut self.draft.facts, facts);
-        drop(before);
-        Ok(true)
-    }
-
-    // Gives the state other numbers, or those back that were.
-    fn puts_values(&mut self, changes: &[Number], is_back: bool) -> Result<(), AllocError> {
-        let facts = self.draft.facts.as_slice();
-        put_values(self.spec, &mut self.witness.state, facts, changes, is_back)
-    }
-
     // Gives the calls other numbers.
-    fn puts_arguments(&mut self, changes: &[Number]) -> Result<(), AllocError> {
-        let calls = calls_changed(self.alloc, self.draft.calls.as_slice(), changes)?;
+    fn puts_arguments(&mut self, numbers: &[Number]) -> Result<(), AllocError> {
+        let calls = calls_changed(self.alloc, self.draft.calls.as_slice(), numbers)?;
         let before = replace(&mut self.witness.calls, calls);
         drop(before);
         Ok(())
     }
 
-    // Gives the values other numbers, or those back that were.
-    fn puts(&mut self, changes: &[Number], is_back: bool) -> Result<(), AllocError> {
-        self.puts_values(changes, is_back)?;
-        if changes.iter().all(|change| is_value(change.place)) {
+    // Makes a change to the values, or takes it back.
+    fn puts(&mut self, change: Change<'_>, is_back: bool) -> Result<(), AllocError> {
+        let facts = self.draft.facts.as_slice();
+        put_change(self.spec, &mut self.witness.state, facts, change, is_back)?;
+        if !change
+            .numbers
+            .iter()
+            .any(|number| is_argument(number.place))
+        {
             return Ok(());
         }
-        self.puts_arguments(if is_back { &[] } else { changes })
+        self.puts_arguments(if is_back { &[] } else { change.numbers })
     }
 
-    /// Tries the values with other numbers.
-    pub fn sets(&mut self, changes: &[Number]) -> Result<bool, AllocError> {
-        if self.left == 0 || !self.draft.is_smaller_with(changes) || !are_in_range(changes) {
+    // Whether a change makes it smaller: it leaves facts out, or its numbers are smaller.
+    fn is_above_by(&self, change: Change<'_>) -> bool {
+        let numbers = change.numbers;
+        if !numbers.iter().all(|number| is_in_state_range(number.value)) {
+            return false;
+        }
+        leaves_any(self.spec, self.draft.facts.as_slice(), change.left)
+            || self.draft.is_smaller_with(numbers)
+    }
+
+    /// Tries a change: where it makes the values smaller and they still refute the obligation, it stays.
+    pub fn changes(&mut self, change: Change<'_>) -> Result<bool, AllocError> {
+        if self.left == 0 || !self.is_above_by(change) {
             return Ok(false);
         }
         self.left = self.left.saturating_sub(1);
-        self.puts(changes, false)?;
-        if !self.serves(bits_changed(self.draft.facts.as_slice(), changes)) {
-            self.puts(changes, true)?;
+        let touched = bits_changed(self.spec, self.draft.facts.as_slice(), change);
+        self.puts(change, false)?;
+        if !self.serves(touched) {
+            self.puts(change, true)?;
             return Ok(false);
         }
-        let draft = with_numbers(self.alloc, &self.draft, changes)?;
+        let draft = with_change(self.alloc, self.spec, &self.draft, change)?;
         let before = replace(&mut self.draft, draft);
         drop(before);
         Ok(true)
