@@ -20,7 +20,8 @@ pub(crate) fn take(taken: &mut [bool], place: usize) -> bool {
     false
 }
 
-fn lits_at(kept: &KeptClauses, place: u32) -> &[Lit] {
+/// The literals of the clause at a place.
+pub(crate) fn lits_at(kept: &KeptClauses, place: u32) -> &[Lit] {
     match kept.clauses.get(place as usize) {
         Some(clause) => clause.lits(),
         None => &[],

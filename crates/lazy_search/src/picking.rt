@@ -5,10 +5,12 @@
 // transitive takes three clauses for each three constants of a sort, and few are needed: first those whose equalities are all named. They
 // are chosen where they are searched, and so are the clauses of the entry, which are mostly of invariants: these are found by what they
 // name (src/beside.rt).
-// An interpretation of these may make others false; they are searched too in the next round.
+// An interpretation of these may make others false; they are searched too in the next round, and of the entry's those that they lead to
+// (src/leading.rt).
 use crate::Chosen;
 use crate::agreeing::value_of;
 use crate::beside::{kept_beside, take};
+use crate::leading::Valued;
 use crate::parts::{FEW_ATOMS, Part, count_named};
 use crate::testing::Picks;
 use clausify::KeptClauses;
@@ -118,15 +120,6 @@ fn mark_parts(atoms: &Atoms, places: &mut [u32], lits: &[Lit]) {
         if atoms.atom(lit.atom).is_none() {
             mark(places, &[*lit]);
         }
-    }
-}
-
-// The number of an atom of the entry's clauses, where so many more come before those that name parts.
-fn raised(first: u32, more: u32, atom: u32) -> u32 {
-    if atom < first {
-        atom
-    } else {
-        atom.wrapping_add(more)
     }
 }
 
@@ -248,8 +241,8 @@ impl Picked {
         kept_beside(alloc, atoms, kept, named, self.kept.as_mut_slice())
     }
 
-    /// Chooses of the entry's clauses those that truth values of a part make false, and adds their numbers. `name` is the number of the first
-    /// atom that names a part.
+    /// Chooses of the entry's clauses those that truth values of a part make false and those that these lead to, and adds their numbers.
+    /// `name` is the number of the first atom that names a part.
     pub fn choose_false(
         &mut self,
         kept: &KeptClauses,
@@ -258,25 +251,16 @@ impl Picked {
         truths: &[bool],
         numbers: &mut Vec<u32>,
     ) -> Result<(), AllocError> {
-        if self.kept.is_empty() {
-            return Ok(());
-        }
-        let more = name.wrapping_sub(kept.first);
-        for (place, clause) in kept.clauses.iter().enumerate() {
-            if place >= self.kept.len() || self.kept[place] {
-                continue;
-            }
-            let is_true = clause.lits().iter().any(|lit| value_of(
-                part,
-                truths,
-                raised(kept.first, more, lit.atom),
-            ) == lit.positive);
-            if !is_true {
-                self.kept[place] = true;
-                numbers.push(number_of(place))?;
-            }
-        }
-        Ok(())
+        self.kept.resize(kept.clauses.len(), false)?;
+        let valued = Valued {
+            kept,
+            more: name.wrapping_sub(kept.first),
+            part,
+            truths,
+        };
+        let from = numbers.len();
+        valued.take_false(self.kept.as_mut_slice(), numbers)?;
+        valued.take_led_to(from, self.kept.as_mut_slice(), numbers)
     }
 
     /// Chooses all clauses of the entry, where some were chosen, and all that say that equality is transitive, of which this is the first

@@ -12,6 +12,7 @@ ghost use Rattle.lazy_search.specs.Refuting.{IsLazyAnswerTo, IsStepTo};
 use crate::agreeing::{PairAt, disagreeing};
 use crate::choosing::forms_behind;
 use crate::counting::{count_atoms, sizes_of};
+use crate::lessening::lessened;
 use crate::measured::Measured;
 use crate::parts::{Part, part_of};
 use crate::picking::Picked;
@@ -119,8 +120,8 @@ fn choose_false(
     Ok(some)
 }
 
-// What truth values of a part come to. Where they make a chosen clause false, or equality isn't transitive by them, no pairs are looked for:
-// tuples may seem equal then that aren't.
+// What truth values of a part come to. Where equality isn't transitive by them, no pairs are looked for: tuples may seem equal then that
+// aren't.
 fn judge_found(
     alloc: Global,
     measured: &Measured<'_>,
@@ -135,13 +136,12 @@ fn judge_found(
     let is_picking = picked.pick_false(chosen, part, truths);
     let mut numbers = Vec::new(alloc);
     let some = or_drop!(choose_false(measured, picked, part, truths, &mut numbers); numbers);
-    let is_open = is_picking || some;
-    let pairs = if is_open {
+    let pairs = if some {
         Vec::new(alloc)
     } else {
         or_drop!(disagreeing(alloc, measured.ground, part, truths); numbers)
     };
-    if !is_open && numbers.is_empty() && pairs.is_empty() {
+    if !is_picking && numbers.is_empty() && pairs.is_empty() {
         drop(numbers);
         drop(pairs);
         return Ok(Step::Answered(LazyAnswer::Satisfiable));
@@ -174,14 +174,17 @@ fn search_picked(
     let few = few_of(aim.budget);
     match watched_search::search(alloc, &part.problem, few) {
         Answer::Unsat(log) => judge_log(alloc, measured, &part, log, few, aim),
-        Answer::Sat(found) => match broken_by(alloc, aim, ground, &part, &found) {
-            Ok(Some(witness)) => Ok(Step::Answered(LazyAnswer::Broken(witness))),
-            Ok(None) => {
-                let truths = found.truths.as_slice();
-                judge_found(alloc, measured, chosen, picked, &part, truths)
+        Answer::Sat(found) => {
+            let found = or_drop!(lessened(alloc, ground, &part, found); part);
+            match broken_by(alloc, aim, ground, &part, &found) {
+                Ok(Some(witness)) => Ok(Step::Answered(LazyAnswer::Broken(witness))),
+                Ok(None) => {
+                    let truths = found.truths.as_slice();
+                    judge_found(alloc, measured, chosen, picked, &part, truths)
+                }
+                Err(AllocError) => Err(AllocError),
             }
-            Err(AllocError) => Err(AllocError),
-        },
+        }
         Answer::Memory => Err(AllocError),
         other => {
             drop(other);
@@ -382,11 +385,15 @@ fn search_chosen(
     let numbers = or_drop!(picked.first_transitive(alloc, first); picked);
     or_drop!(add_picked(alloc, measured, chosen, &mut picked, numbers); picked);
     if is_first_without_entry(measured.ground) {
-        match rounds(alloc, measured, chosen, &mut picked, aim)? {
-            LazyAnswer::Refuted(log) => return Ok(LazyAnswer::Refuted(log)),
-            LazyAnswer::Broken(witness) => return Ok(LazyAnswer::Broken(witness)),
-            LazyAnswer::Satisfiable => {}
-            LazyAnswer::Unknown => {}
+        match search_round(alloc, measured, chosen, &mut picked, aim)? {
+            Some(LazyAnswer::Refuted(log)) => return Ok(LazyAnswer::Refuted(log)),
+            Some(LazyAnswer::Broken(witness)) => return Ok(LazyAnswer::Broken(witness)),
+            Some(LazyAnswer::Satisfiable) => {}
+            Some(LazyAnswer::Unknown) => {}
+            None => {
+                picked.pick_new(chosen.clauses.len())?;
+                return rounds(alloc, measured, chosen, &mut picked, aim);
+            }
         }
     }
     add_entry(alloc, measured, chosen, &mut picked)?;
