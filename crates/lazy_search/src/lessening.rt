@@ -80,15 +80,17 @@ impl Valued<'_> {
 
     // Lets atoms of all clauses stay that have at most so many true ones.
     fn keep_all(&self, staying: &mut [bool], most: u32) {
-        for clause in self.part.problem.clauses.iter() {
+        let part = self.part;
+        for clause in part.problem.clauses.iter() {
             self.keep(staying, clause.lits(), most);
         }
     }
 
     // Which rows are true.
     fn rows(&self, alloc: Global) -> Result<Vec<bool>, AllocError> {
+        let part = self.part;
         let mut rows = Vec::with_capacity(alloc, self.truths.len())?;
-        for (kind, truth) in self.part.problem.atoms.iter().zip(self.truths.iter()) {
+        for (kind, truth) in part.problem.atoms.iter().zip(self.truths.iter()) {
             rows.push(*truth && matches!(kind, AtomKind::Row(_)))?;
         }
         Ok(rows)

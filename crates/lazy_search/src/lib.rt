@@ -35,7 +35,7 @@
 //   round. Pairs are looked for only where equality is transitive in it: else tuples may seem equal
 //   that aren't.
 // - Two calls mostly commute whatever the invariants say. So an obligation on two calls whose entry
-//   has at least 256 clauses is first searched without these, once, and its time doesn't grow with
+//   has at least 64 clauses is first searched without these, once, and its time doesn't grow with
 //   the number of invariants. Where that has an interpretation, the entry's clauses that are false in
 //   it join, as in each round. Of one call the invariants are needed nearly always. After five
 //   rounds all clauses but those of pairs are searched.

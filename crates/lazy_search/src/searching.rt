@@ -319,7 +319,7 @@ fn rounds(
 }
 
 // How many clauses the entry has at least, where a search without them comes first.
-const MANY: usize = 256;
+const MANY: usize = 64;
 
 // Whether a search without the clauses of the entry comes first: where these are many, and the obligation is on two calls. Two calls mostly
 // commute, and one mostly leaves the other's precondition, whatever the invariants say.
