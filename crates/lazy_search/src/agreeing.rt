@@ -5,6 +5,7 @@
 // made of these, so that few are compared that aren't equal.
 use crate::parts::Part;
 use ground_atoms::Atom;
+use items::or_drop;
 use lazy_ground::{LazyGround, ReadingPairs};
 use needed_clauses::parts::{NOWHERE, number_of, place_of};
 use std::alloc::{AllocError, Global};
@@ -196,6 +197,45 @@ impl ReadRelation<'_> {
     }
 }
 
+// Adds those of a relation, which stands at this place.
+fn add_of_relation(
+    alloc: Global,
+    part: &Part,
+    truths: &[bool],
+    (relation, pairs): (usize, &ReadingPairs),
+    least: &[u32],
+    out: &mut Vec<PairAt>,
+) -> Result<(), AllocError> {
+    let values = values_of(alloc, part, truths, pairs)?;
+    let read = ReadRelation {
+        relation,
+        pairs,
+        values: values.as_slice(),
+        least,
+    };
+    let added = read.add_all_disagreeing(alloc, out);
+    drop(values);
+    added
+}
+
+// Adds those of each relation.
+fn add_of_relations(
+    alloc: Global,
+    ground: &LazyGround,
+    part: &Part,
+    truths: &[bool],
+    least: &[u32],
+    out: &mut Vec<PairAt>,
+) -> Result<(), AllocError> {
+    if least.is_empty() {
+        return Ok(());
+    }
+    for pairs in ground.pairs.iter().enumerate() {
+        add_of_relation(alloc, part, truths, pairs, least, out)?;
+    }
+    Ok(())
+}
+
 /// The pairs of tuples that these truth values of a part make equal, and of which they read one true and one false.
 pub(crate) fn disagreeing(
     alloc: Global,
@@ -203,20 +243,10 @@ pub(crate) fn disagreeing(
     part: &Part,
     truths: &[bool],
 ) -> Result<Vec<PairAt>, AllocError> {
-    let mut out = Vec::new(alloc);
     let least = least_equal(alloc, ground, part, truths)?;
-    if least.is_empty() {
-        return Ok(out);
-    }
-    for (relation, pairs) in ground.pairs.iter().enumerate() {
-        let values = values_of(alloc, part, truths, pairs)?;
-        let read = ReadRelation {
-            relation,
-            pairs,
-            values: values.as_slice(),
-            least: least.as_slice(),
-        };
-        read.add_all_disagreeing(alloc, &mut out)?;
-    }
+    let mut out = Vec::new(alloc);
+    let added = add_of_relations(alloc, ground, part, truths, least.as_slice(), &mut out);
+    drop(least);
+    or_drop!(added; out);
     Ok(out)
 }

@@ -86,13 +86,19 @@ impl Valued<'_> {
         }
     }
 
-    // Which rows are true.
-    fn rows(&self, alloc: Global) -> Result<Vec<bool>, AllocError> {
+    // Adds of each atom whether it is a true row.
+    fn add_rows(&self, rows: &mut Vec<bool>) -> Result<(), AllocError> {
         let part = self.part;
-        let mut rows = Vec::with_capacity(alloc, self.truths.len())?;
         for (kind, truth) in part.problem.atoms.iter().zip(self.truths.iter()) {
             rows.push(*truth && matches!(kind, AtomKind::Row(_)))?;
         }
+        Ok(())
+    }
+
+    // Which rows are true.
+    fn rows(&self, alloc: Global) -> Result<Vec<bool>, AllocError> {
+        let mut rows = Vec::with_capacity(alloc, self.truths.len())?;
+        or_drop!(self.add_rows(&mut rows); rows);
         Ok(rows)
     }
 

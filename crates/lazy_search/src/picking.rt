@@ -15,6 +15,7 @@ use crate::parts::{FEW_ATOMS, Part, count_named};
 use crate::testing::Picks;
 use clausify::KeptClauses;
 use ground_atoms::{Atom, Atoms, GroundFormula, IntName};
+use items::or_drop;
 use needed_clauses::parts::{NOWHERE, mark, no_places, number_of, place_of};
 use proof_lines::Lit;
 use std::alloc::{AllocError, Global};
@@ -176,6 +177,40 @@ impl Picked {
         false
     }
 
+    // Picks those that name something that is marked, or equalities alone. These formulas say that equality is transitive.
+    fn pick_beside(
+        &mut self,
+        atoms: &Atoms,
+        chosen: &Chosen,
+        places: &mut [u32],
+        transitive: &[GroundFormula],
+    ) -> Result<(), AllocError> {
+        self.transitive.reserve(transitive.len())?;
+        for form in transitive {
+            self.transitive.push(are_marked(places, form))?;
+        }
+        for (place, clause) in chosen.clauses.iter().enumerate() {
+            if is_beside(atoms, places, clause.lits()) {
+                mark_parts(atoms, places, clause.lits());
+                self.pick(place);
+            }
+        }
+        Ok(())
+    }
+
+    // The clauses that are searched first, where nothing is marked yet.
+    fn first_marking(
+        alloc: Global,
+        atoms: &Atoms,
+        chosen: &Chosen,
+        places: &mut [u32],
+        transitive: &[GroundFormula],
+    ) -> Result<Picked, AllocError> {
+        let mut picked = Picked::central(alloc, atoms, chosen, places)?;
+        or_drop!(picked.pick_beside(atoms, chosen, places, transitive); picked);
+        Ok(picked)
+    }
+
     /// The clauses that are searched first. These formulas say that equality is transitive.
     pub fn first(
         alloc: Global,
@@ -184,18 +219,9 @@ impl Picked {
         transitive: &[GroundFormula],
     ) -> Result<Picked, AllocError> {
         let mut places = no_places(alloc, count_named(chosen))?;
-        let mut picked = Picked::central(alloc, atoms, chosen, places.as_mut_slice())?;
-        picked.transitive.reserve(transitive.len())?;
-        for form in transitive {
-            picked.transitive.push(are_marked(places.as_slice(), form))?;
-        }
-        for (place, clause) in chosen.clauses.iter().enumerate() {
-            if is_beside(atoms, places.as_slice(), clause.lits()) {
-                mark_parts(atoms, places.as_mut_slice(), clause.lits());
-                picked.pick(place);
-            }
-        }
-        Ok(picked)
+        let picked = Picked::first_marking(alloc, atoms, chosen, places.as_mut_slice(), transitive);
+        drop(places);
+        picked
     }
 
     /// The numbers of the clauses that say that equality is transitive and are searched first, where the first of all these has this number.

@@ -153,6 +153,45 @@ fn judge_found(
     }))
 }
 
+// What a search of a part comes to.
+fn search_part(
+    alloc: Global,
+    measured: &Measured<'_>,
+    chosen: &Chosen,
+    picked: &mut Picked,
+    part: &Part,
+    aim: &Aim<'_>,
+) -> Result<Step, AllocError>
+    requires measured { IsMeasured measured.now }
+    requires member { IsObligation aim.now.spec.now aim.now.ob.now }
+    requires part { IsPart part.now.problem (lazy_problem measured.now.ground.now)
+        part.now.picks.numbers.items part.now.atoms.items }
+    ensures { IfOk result (λ step. IsStepTo aim.now measured.now.ground.now step) }
+{
+    let few = few_of(aim.budget);
+    match watched_search::search(alloc, &part.problem, few) {
+        Answer::Unsat(log) => judge_log(alloc, measured, part, log, few, aim),
+        Answer::Sat(found) => {
+            let found = lessened(alloc, measured.ground, part, found)?;
+            let step = match broken_by(alloc, aim, measured.ground, part, &found) {
+                Ok(Some(witness)) => Ok(Step::Answered(LazyAnswer::Broken(witness))),
+                Ok(None) => {
+                    let truths = found.truths.as_slice();
+                    judge_found(alloc, measured, chosen, picked, part, truths)
+                }
+                Err(AllocError) => Err(AllocError),
+            };
+            drop(found);
+            step
+        }
+        Answer::Memory => Err(AllocError),
+        other => {
+            drop(other);
+            Ok(Step::Answered(LazyAnswer::Unknown))
+        }
+    }
+}
+
 // A search of the chosen clauses that are picked.
 fn search_picked(
     alloc: Global,
@@ -171,26 +210,9 @@ fn search_picked(
     let Some(part) = part_of(alloc, ground, sizes, chosen, picks, &[])? else {
         return Ok(Step::Answered(LazyAnswer::Unknown));
     };
-    let few = few_of(aim.budget);
-    match watched_search::search(alloc, &part.problem, few) {
-        Answer::Unsat(log) => judge_log(alloc, measured, &part, log, few, aim),
-        Answer::Sat(found) => {
-            let found = or_drop!(lessened(alloc, ground, &part, found); part);
-            match broken_by(alloc, aim, ground, &part, &found) {
-                Ok(Some(witness)) => Ok(Step::Answered(LazyAnswer::Broken(witness))),
-                Ok(None) => {
-                    let truths = found.truths.as_slice();
-                    judge_found(alloc, measured, chosen, picked, &part, truths)
-                }
-                Err(AllocError) => Err(AllocError),
-            }
-        }
-        Answer::Memory => Err(AllocError),
-        other => {
-            drop(other);
-            Ok(Step::Answered(LazyAnswer::Unknown))
-        }
-    }
+    let step = search_part(alloc, measured, chosen, picked, &part, aim);
+    drop(part);
+    step
 }
 
 // Adds the clauses of these pairs. It says whether it added any.
@@ -385,19 +407,25 @@ fn search_chosen(
     let numbers = or_drop!(picked.first_transitive(alloc, first); picked);
     or_drop!(add_picked(alloc, measured, chosen, &mut picked, numbers); picked);
     if is_first_without_entry(measured.ground) {
-        match search_round(alloc, measured, chosen, &mut picked, aim)? {
-            Some(LazyAnswer::Refuted(log)) => return Ok(LazyAnswer::Refuted(log)),
-            Some(LazyAnswer::Broken(witness)) => return Ok(LazyAnswer::Broken(witness)),
+        match or_drop!(search_round(alloc, measured, chosen, &mut picked, aim); picked) {
             Some(LazyAnswer::Satisfiable) => {}
             Some(LazyAnswer::Unknown) => {}
+            Some(answer) => {
+                drop(picked);
+                return Ok(answer);
+            }
             None => {
-                picked.pick_new(chosen.clauses.len())?;
-                return rounds(alloc, measured, chosen, &mut picked, aim);
+                or_drop!(picked.pick_new(chosen.clauses.len()); picked);
+                let answer = rounds(alloc, measured, chosen, &mut picked, aim);
+                drop(picked);
+                return answer;
             }
         }
     }
-    add_entry(alloc, measured, chosen, &mut picked)?;
-    rounds(alloc, measured, chosen, &mut picked, aim)
+    or_drop!(add_entry(alloc, measured, chosen, &mut picked); picked);
+    let answer = rounds(alloc, measured, chosen, &mut picked, aim);
+    drop(picked);
+    answer
 }
 
 /// A search of the lazy ground problem of an obligation, with logs of at most `budget` lines: a log that shows that the problem has no
