@@ -55,12 +55,12 @@ impl Refutation<'_> {
         if number.value > 0 {
             return Ok(false);
         }
-        let size = number.value.wrapping_neg();
-        Ok(
-            self.sets_one(number.place, 1)?
-                || self.sets_one(number.place, 2)?
-                || self.sets_one(number.place, size)?,
-        )
+        for value in &[1, 2, number.value.wrapping_neg()] {
+            if self.sets_one(number.place, *value)? {
+                return Ok(true);
+            }
+        }
+        Ok(false)
     }
 
     // Makes a number 0, or else brings it nearer.
@@ -197,16 +197,10 @@ impl Refutation<'_> {
         is_changed
     }
 
-    // Makes a value 0, and another number nearer to 0 by this much, or farther from it.
-    fn trades_by(
-        &mut self,
-        value: Number,
-        other: Number,
-        sign: i64,
-        by: i64,
-    ) -> Result<bool, AllocError> {
+    // Makes a value 0, and another number less by this much.
+    fn trades_by(&mut self, value: Number, other: Number, by: i64) -> Result<bool, AllocError> {
         let none = nearer(value, 1, value.value);
-        self.sets(&[none, nearer(other, sign, by)])
+        self.sets(&[none, nearer(other, 1, by)])
     }
 
     // Makes a value 0 where another number is 0 too, or grows or falls a little for it.
@@ -217,13 +211,12 @@ impl Refutation<'_> {
         if value == other {
             return Ok(false);
         }
-        Ok(
-            self.trades_by(first, second, 1, second.value)?
-                || self.trades_by(first, second, -1, 1)?
-                || self.trades_by(first, second, -1, 2)?
-                || self.trades_by(first, second, 1, 1)?
-                || self.trades_by(first, second, 1, 2)?,
-        )
+        for by in &[second.value, -1, -2, 1, 2] {
+            if self.trades_by(first, second, *by)? {
+                return Ok(true);
+            }
+        }
+        Ok(false)
     }
 
     fn trades_any(&mut self, value: Place) -> Result<bool, AllocError> {
@@ -282,8 +275,8 @@ impl Refutation<'_> {
         Ok(false)
     }
 
-    /// Brings numbers nearer to 0 as long as what is left refutes the obligation. Says whether there was a change.
-    pub fn with_lesser_numbers(&mut self) -> Result<bool, AllocError> {
+    // Brings numbers nearer to 0 one by one.
+    fn lessens_each(&mut self) -> Result<bool, AllocError> {
         let count = MOST_ARGUMENTS.saturating_add(self.draft.facts.len());
         let mut changed = false;
         for n in 0..count {
@@ -291,8 +284,13 @@ impl Refutation<'_> {
                 changed = true;
             }
         }
+        Ok(changed)
+    }
+
+    /// Brings numbers nearer to 0 as long as what is left refutes the obligation. Says whether there was a change.
+    pub fn with_lesser_numbers(&mut self) -> Result<bool, AllocError> {
         Ok(
-            changed
+            self.lessens_each()?
                 || self.moves_groups()?
                 || self.trades_values()?
                 || self.leaves_arguments()?

@@ -173,6 +173,14 @@ impl<'a> Refutation<'a> {
             || self.draft.is_smaller_with(numbers)
     }
 
+    // Makes a change to the draft, which the values have already.
+    fn keeps(&mut self, change: Change<'_>) -> Result<(), AllocError> {
+        let draft = with_change(self.alloc, self.spec, &self.draft, change)?;
+        let before = replace(&mut self.draft, draft);
+        drop(before);
+        Ok(())
+    }
+
     /// Tries a change: where it makes the values smaller and they still refute the obligation, it stays.
     pub fn changes(&mut self, change: Change<'_>) -> Result<bool, AllocError> {
         if self.left == 0 || !self.is_above_by(change) {
@@ -185,9 +193,7 @@ impl<'a> Refutation<'a> {
             self.puts(change, true)?;
             return Ok(false);
         }
-        let draft = with_change(self.alloc, self.spec, &self.draft, change)?;
-        let before = replace(&mut self.draft, draft);
-        drop(before);
+        self.keeps(change)?;
         Ok(true)
     }
 }

@@ -1,6 +1,6 @@
 // Smaller witnesses: what doesn't matter for a refutation is taken away, so that what is left shows what does.
 ghost use Rattle.obligation_list.specs.Obligations.{IsObligation};
-ghost use Rattle.witness_shrinking.specs.Refuted.{IsRefutedBy};
+ghost use Rattle.witness_shrinking.specs.Refuted.{IsRefutedBy, HasLists};
 
 use crate::changes::{has, with_thing};
 use crate::draft::Draft;
@@ -161,6 +161,53 @@ fn bits_read(alloc: Global, spec: &Spec, ob: &Obligation) -> Result<Items<u32>, 
     }
 }
 
+// A smaller witness, where the draft is that of the first one; none where its world is none.
+fn smaller(
+    alloc: Global,
+    spec: &Spec,
+    ob: &Obligation,
+    witness: Witness,
+    draft: Draft,
+    read: &[u32],
+) -> Result<Option<Witness>, AllocError>
+    requires member { IsObligation spec.now ob.now }
+    requires lists { HasLists spec.now witness.state }
+{
+    let mut refutation = Refutation {
+        alloc,
+        spec,
+        ob,
+        witness,
+        draft,
+        left: MOST_TRIES,
+        read,
+    };
+    let made = refutation.shrunk();
+    drop(refutation);
+    made
+}
+
+// A smaller witness, where there is one.
+fn smaller_than(
+    alloc: Global,
+    spec: &Spec,
+    ob: &Obligation,
+    witness: &Witness,
+) -> Result<Option<Witness>, AllocError>
+    requires { IsObligation spec.now ob.now }
+{
+    let draft = Draft::of(alloc, spec, witness)?;
+    let copy = or_drop!(draft.witness(alloc, spec); draft);
+    let Some(first) = copy else {
+        drop(draft);
+        return Ok(None);
+    };
+    let read = or_drop!(bits_read(alloc, spec, ob); first, draft);
+    let made = smaller(alloc, spec, ob, first, draft, read.as_slice());
+    drop(read);
+    made
+}
+
 /// Makes a witness that refutes an obligation smaller, step by step, as long as it still does.
 pub fn shrink(
     alloc: Global,
@@ -172,27 +219,7 @@ pub fn shrink(
     requires refuted { IsRefutedBy spec.now ob.now witness.old }
     ensures { IsRefutedBy spec.now ob.now witness.new }
 {
-    let draft = Draft::of(alloc, spec, witness)?;
-    let copy = or_drop!(draft.witness(alloc, spec); draft);
-    let Some(first) = copy else {
-        drop(draft);
-        return Ok(());
-    };
-    let read = or_drop!(bits_read(alloc, spec, ob); first, draft);
-    let mut refutation = Refutation {
-        alloc,
-        spec,
-        ob,
-        witness: first,
-        draft,
-        left: MOST_TRIES,
-        read: read.as_slice(),
-    };
-    let made = refutation.shrunk();
-    drop(refutation);
-    drop(read);
-    let made = made?;
-    let Some(smaller) = made else {
+    let Some(smaller) = smaller_than(alloc, spec, ob, witness)? else {
         return Ok(());
     };
     if breaks(spec, ob, &smaller) {
