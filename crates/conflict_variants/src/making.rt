@@ -1,7 +1,7 @@
 // Making the bare specification and the keyed ones.
 
-ghost use Rattle.std.specs.Prelude.{◌≡◌, [], ◌∷◌, map, get_or, IfOk, true};
-ghost use Rattle.spec_core.specs.Typed.{is_specification};
+ghost use Rattle.std.specs.Prelude.{◌≡◌, [], ◌∷◌, map, get_or, slice_get, unwrap_or, IfOk, true};
+ghost use Rattle.spec_core.specs.Typed.{is_specification, sort_of_param};
 ghost use Rattle.conflict_variants.specs.{Takes.{with_takes}, Bare.{with_tokens, bare as bare_of}};
 ghost use Rattle.conflict_variants.specs.Keyed.{CanBeKeyed, first_name, second_name};
 ghost use Rattle.conflict_variants.specs.Keyed.{keyed_token as token_of};
@@ -16,7 +16,7 @@ use crate::copies::declarations::{
 use crate::copies::operations::copy_with_takes;
 use crate::naming::unused_names;
 use items::Items;
-use spec_core::{Elem, Kind, Name, Operation, Pattern, Rule, Spec, Take, Token};
+use spec_core::{Elem, Kind, Name, Operation, Param, Pattern, Rule, Spec, Take, Token};
 use std::alloc::{AllocError, Global};
 
 // A copy of a specification, but with these tokens, rules and operations.
@@ -63,7 +63,8 @@ fn bare_operations(alloc: Global, operations: &[Operation]) -> Result<Items<Oper
 {
     let mut copies = Items::new(alloc);
     for operation in operations {
-        copies.push(copy_with_takes(alloc, operation, Items::new(alloc))?)?;
+        let copy = or_drop!(copy_with_takes(alloc, operation, Items::new(alloc)); copies);
+        or_drop!(copies.push(copy); copies);
     }
     Ok(copies)
 }
@@ -102,8 +103,10 @@ fn two_tokens(
         ∷ []) }
 {
     let mut tokens = Items::new(alloc);
-    tokens.push(keyed_token(alloc, first, sort)?)?;
-    tokens.push(keyed_token(alloc, second, sort)?)?;
+    let first = or_drop!(keyed_token(alloc, first, sort); tokens);
+    or_drop!(tokens.push(first); tokens);
+    let second = or_drop!(keyed_token(alloc, second, sort); tokens);
+    or_drop!(tokens.push(second); tokens);
     Ok(tokens)
 }
 
@@ -142,7 +145,7 @@ fn keyed_rules(alloc: Global) -> Result<Items<Rule>, AllocError>
     let left = keyed_pattern(alloc, 0)?;
     let right = or_drop!(keyed_pattern(alloc, 1); left);
     let mut rules = Items::new(alloc);
-    rules.push(Rule { left, right })?;
+    or_drop!(rules.push(Rule { left, right }); rules);
     Ok(rules)
 }
 
@@ -171,10 +174,12 @@ fn keyed_takes(alloc: Global, key: Key, number: usize) -> Result<Items<Take>, Al
 {
     let mut takes = Items::new(alloc);
     if number == key.first as usize {
-        takes.push(keyed_take(alloc, 0, key.p)?)?;
+        let take = or_drop!(keyed_take(alloc, 0, key.p); takes);
+        or_drop!(takes.push(take); takes);
     }
     if number == key.second as usize {
-        takes.push(keyed_take(alloc, 1, key.q)?)?;
+        let take = or_drop!(keyed_take(alloc, 1, key.q); takes);
+        or_drop!(takes.push(take); takes);
     }
     Ok(takes)
 }
@@ -198,23 +203,31 @@ fn keyed_operations(alloc: Global, spec: &Spec, key: Key) -> Result<Items<Operat
 {
     let mut copies = Items::new(alloc);
     for (number, operation) in spec.operations.as_slice().iter().enumerate() {
-        copies.push(keyed_operation(alloc, operation, key, number)?)?;
+        let copy = or_drop!(keyed_operation(alloc, operation, key, number); copies);
+        or_drop!(copies.push(copy); copies);
     }
     Ok(copies)
 }
 
-// The sort of a parameter; 0 where there is none.
-fn key_sort(spec: &Spec, op: u8, param: u8) -> u8
-    ensures { result ≡ key_sort_of spec.now op param }
+// The sort of a parameter among these; 0 where there is none.
+fn sort_at(params: &[Param], param: u8) -> u8
+    ensures { result ≡ unwrap_or (sort_of_param (slice_get params.now param)) 0 }
 {
-    let Some(operation) = spec.operations.as_slice().get(op as usize) else {
-        return 0;
-    };
-    match operation.params.as_slice().get(param as usize) {
+    match params.get(param as usize) {
         Some(found) => match found.kind {
             Kind::Sort(sort) => sort,
             Kind::Int => 0,
         },
+        None => 0,
+    }
+}
+
+// The sort of a parameter of an operation; 0 where there is none.
+fn key_sort(spec: &Spec, op: u8, param: u8) -> u8
+    ensures { result ≡ key_sort_of spec.now op param }
+{
+    match spec.operations.as_slice().get(op as usize) {
+        Some(operation) => sort_at(operation.params.as_slice(), param),
         None => 0,
     }
 }

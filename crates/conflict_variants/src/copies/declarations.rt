@@ -62,7 +62,8 @@ pub fn copy_names(alloc: Global, names: &[Name]) -> Result<Items<Name>, AllocErr
 {
     let mut copies = Items::new(alloc);
     for name in names {
-        copies.push(copy_name(alloc, name)?)?;
+        let copy = or_drop!(copy_name(alloc, name); copies);
+        or_drop!(copies.push(copy); copies);
     }
     Ok(copies)
 }
@@ -73,7 +74,8 @@ pub fn copy_consts(alloc: Global, constants: &[Const]) -> Result<Items<Const>, A
 {
     let mut copies = Items::new(alloc);
     for constant in constants {
-        copies.push(copy_const(alloc, constant)?)?;
+        let copy = or_drop!(copy_const(alloc, constant); copies);
+        or_drop!(copies.push(copy); copies);
     }
     Ok(copies)
 }
@@ -84,7 +86,8 @@ pub fn copy_relations(alloc: Global, relations: &[Relation]) -> Result<Items<Rel
 {
     let mut copies = Items::new(alloc);
     for relation in relations {
-        copies.push(copy_relation(alloc, relation)?)?;
+        let copy = or_drop!(copy_relation(alloc, relation); copies);
+        or_drop!(copies.push(copy); copies);
     }
     Ok(copies)
 }
@@ -95,7 +98,8 @@ pub fn copy_counters(alloc: Global, counters: &[Counter]) -> Result<Items<Counte
 {
     let mut copies = Items::new(alloc);
     for counter in counters {
-        copies.push(copy_counter(alloc, counter)?)?;
+        let copy = or_drop!(copy_counter(alloc, counter); copies);
+        or_drop!(copies.push(copy); copies);
     }
     Ok(copies)
 }
@@ -109,7 +113,8 @@ pub fn copy_invariants(
 {
     let mut copies = Items::new(alloc);
     for invariant in invariants {
-        copies.push(copy_invariant(alloc, invariant)?)?;
+        let copy = or_drop!(copy_invariant(alloc, invariant); copies);
+        or_drop!(copies.push(copy); copies);
     }
     Ok(copies)
 }

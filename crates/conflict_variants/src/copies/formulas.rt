@@ -35,7 +35,8 @@ fn copy_summands(alloc: Global, summands: &[Summand]) -> Result<Items<Summand>, 
 {
     let mut copies = Items::new(alloc);
     for summand in summands {
-        copies.push(copy_summand(alloc, summand)?)?;
+        let copy = or_drop!(copy_summand(alloc, summand); copies);
+        or_drop!(copies.push(copy); copies);
     }
     Ok(copies)
 }
@@ -48,27 +49,44 @@ pub fn copy_term(alloc: Global, term: &Term) -> Result<Term, AllocError>
     Ok(Term { summands })
 }
 
+fn one_boxed(alloc: Global, formula: Formula) -> Result<Box<Formula>, AllocError>
+    ensures { IfOk result (λ made. made.value ≡ formula) }
+{
+    Ok(Box::new(alloc, formula)?)
+}
+
+/// The two sides of a connective.
+fn boxed(
+    alloc: Global,
+    left: Formula,
+    right: Formula,
+) -> Result<(Box<Formula>, Box<Formula>), AllocError>
+    ensures left { IfOk result (λ sides. sides.0.value ≡ left) }
+    ensures right { IfOk result (λ sides. sides.1.value ≡ right) }
+{
+    let left = or_drop!(one_boxed(alloc, left); right);
+    let right = or_drop!(one_boxed(alloc, right); left);
+    Ok((left, right))
+}
+
 fn and(alloc: Global, left: Formula, right: Formula) -> Result<Formula, AllocError>
     ensures { IfOk result (λ made. form_of made ≡ and_form (form_of left) (form_of right)) }
 {
-    let left = Box::new(alloc, left)?;
-    let right = Box::new(alloc, right)?;
+    let (left, right) = boxed(alloc, left, right)?;
     Ok(Formula::And(left, right))
 }
 
 fn or(alloc: Global, left: Formula, right: Formula) -> Result<Formula, AllocError>
     ensures { IfOk result (λ made. form_of made ≡ or_form (form_of left) (form_of right)) }
 {
-    let left = Box::new(alloc, left)?;
-    let right = Box::new(alloc, right)?;
+    let (left, right) = boxed(alloc, left, right)?;
     Ok(Formula::Or(left, right))
 }
 
 fn implies(alloc: Global, left: Formula, right: Formula) -> Result<Formula, AllocError>
     ensures { IfOk result (λ made. form_of made ≡ implies_form (form_of left) (form_of right)) }
 {
-    let left = Box::new(alloc, left)?;
-    let right = Box::new(alloc, right)?;
+    let (left, right) = boxed(alloc, left, right)?;
     Ok(Formula::Implies(left, right))
 }
 
@@ -135,7 +153,8 @@ pub fn copy_lines(alloc: Global, lines: &[Prefixed]) -> Result<Items<Prefixed>, 
 {
     let mut copies = Items::new(alloc);
     for line in lines {
-        copies.push(copy_line(alloc, line)?)?;
+        let copy = or_drop!(copy_line(alloc, line); copies);
+        or_drop!(copies.push(copy); copies);
     }
     Ok(copies)
 }

@@ -40,7 +40,8 @@ fn copy_updates(alloc: Global, updates: &[Update]) -> Result<Items<Update>, Allo
 {
     let mut copies = Items::new(alloc);
     for update in updates {
-        copies.push(copy_update(alloc, update)?)?;
+        let copy = or_drop!(copy_update(alloc, update); copies);
+        or_drop!(copies.push(copy); copies);
     }
     Ok(copies)
 }
@@ -60,7 +61,8 @@ fn copy_params(alloc: Global, params: &[Param]) -> Result<Items<Param>, AllocErr
 {
     let mut copies = Items::new(alloc);
     for param in params {
-        copies.push(copy_param(alloc, param)?)?;
+        let copy = or_drop!(copy_param(alloc, param); copies);
+        or_drop!(copies.push(copy); copies);
     }
     Ok(copies)
 }
