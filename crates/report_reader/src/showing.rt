@@ -3,9 +3,9 @@
 ghost use Rattle.std.specs.{Prelude.{◌≡◌, ◌<◌, true, length, IfOk, OnOk}, List.{list_all}};
 ghost use Rattle.spec_core.specs.{State.{reads, with_has, with_count}, Fits.{is_state}};
 ghost use Rattle.report_reader.specs.Reader.{with_facts, with_readings, fact_fits, reading_fits};
-ghost use Rattle.report_reader.specs.Reader.{IsShowing, IsShownBy};
+ghost use Rattle.report_reader.specs.Reader.{reads_of, IsShowing, IsShownBy};
 
-use items::Items;
+use items::{Items, or_drop};
 use obligation_list::Witness;
 use proof_report::place::PartialWitness;
 use report_lines::witness::{Fact, Reading};
@@ -92,7 +92,8 @@ fn copy_calls(alloc: Global, calls: &[Call]) -> Result<Items<Call>, AllocError>
 {
     let mut copies = Items::new(alloc);
     for call in calls {
-        copies.push(copy_call(alloc, call)?)?;
+        let copy = or_drop!(copy_call(alloc, call); copies);
+        or_drop!(copies.push(copy); copies);
     }
     Ok(copies)
 }
@@ -101,8 +102,20 @@ fn copy_world(alloc: Global, world: &World) -> Result<World, AllocError>
     ensures { IfOk result (λ copy. copy ≡ world.now) }
 {
     let sizes = Items::from_slice(alloc, world.sizes.as_slice())?;
-    let consts = Items::from_slice(alloc, world.consts.as_slice())?;
+    let consts = or_drop!(Items::from_slice(alloc, world.consts.as_slice()); sizes);
     Ok(World { sizes, consts })
+}
+
+// The state of what was shown.
+fn shown_state(alloc: Global, spec: &Spec, shown: &PartialWitness) -> Result<State, AllocError>
+    requires { IsShowing spec.now shown.now }
+    ensures reads { IfOk result (λ s. reads s ≡ reads_of shown.now) }
+    ensures fits { IfOk result (λ s. is_state spec.now shown.now.world s ≡ true) }
+{
+    let mut state = State::empty(alloc, spec, &shown.world)?;
+    or_drop!(add_facts(spec, &shown.world, &mut state, shown.facts.as_slice()); state);
+    or_drop!(add_readings(spec, &shown.world, &mut state, shown.readings.as_slice()); state);
+    Ok(state)
 }
 
 /// The witness of what was shown, with these elements.
@@ -115,11 +128,9 @@ pub fn witness(
     requires { IsShowing spec.now shown.now }
     ensures { IfOk result (λ w. IsShownBy spec.now shown.now elements w) }
 {
-    let mut state = State::empty(alloc, spec, &shown.world)?;
-    add_facts(spec, &shown.world, &mut state, shown.facts.as_slice())?;
-    add_readings(spec, &shown.world, &mut state, shown.readings.as_slice())?;
-    let calls = copy_calls(alloc, shown.calls.as_slice())?;
-    let world = copy_world(alloc, &shown.world)?;
+    let state = or_drop!(shown_state(alloc, spec, shown); elements);
+    let calls = or_drop!(copy_calls(alloc, shown.calls.as_slice()); elements, state);
+    let world = or_drop!(copy_world(alloc, &shown.world); elements, state, calls);
     Ok(Witness {
         world,
         state,
